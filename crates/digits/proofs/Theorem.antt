@@ -1,0 +1,48 @@
+-- The statements of specs/Theorem, a term each. Assumes nothing.
+use Prim.Native.Nat.{ℕ, _<_}
+use Rattle.digits.specs.Theorem.{Determined, DigitByDigit, Group, Parts, ExclusiveOr, Reversal}
+use Rattle.digits.proofs.Digit as D
+use Rattle.digits.proofs.Arithmetic as A
+use Rattle.digits.proofs.Two as T
+use Rattle.digits.proofs.Reversed as R
+
+pub determined : {b : ℕ} → 1 < b → Determined b
+determined big = record { by-digits = D.ext big; by-lowest = D.ext-below big; number-digit = D.digit-number big; number-below = D.number-lt big }
+
+pub digit-by-digit : {b : ℕ} → 1 < b → DigitByDigit b
+digit-by-digit big = record { plus-digit = A.digit-plus big; minus-digit = A.digit-minus big; times-digit = A.digit-times big }
+
+pub group : {b : ℕ} → 1 < b → Group b
+group big = record {
+  associative = A.plus-assoc big;
+  commutative = A.plus-comm big;
+  neutral = A.plus-zero big;
+  taken-added = A.minus-plus big;
+  added-taken = A.plus-minus big;
+}
+
+pub parts : {b : ℕ} → 1 < b → Parts b
+parts big = record {
+  plus-quotient = A.plus-div big;
+  plus-remainder = A.plus-mod big;
+  minus-quotient = A.minus-div big;
+  minus-remainder = A.minus-mod big;
+  plus-below = A.plus-lt big;
+  minus-below = A.minus-lt big;
+}
+
+pub exclusive-or : ExclusiveOr
+exclusive-or = record { plus-is = T.plus-two; minus-is = T.minus-two }
+
+pub reversal : {b : ℕ} → 1 < b → Reversal b
+reversal big = record {
+  places = R.digit-reversed big;
+  below = R.reversed-lt big;
+  joined = R.reversed-join big;
+  lowest = R.reversed-suc big;
+  highest = R.reversed-more big;
+  twice = R.reversed-twice big;
+  shorter = R.reversed-short big;
+  remainder = R.reversed-mod big;
+  additive = R.reversed-plus big;
+}

@@ -1,0 +1,53 @@
+-- What is proved of digits (proofs/Theorem), in every base b above 1 and for all numbers; `ExclusiveOr` is about base two.
+use mathlib.Core.Path.{_≡_}
+use Prim.Native.Nat.{ℕ, suc, _+_, _-_, _*_, _/_, _%_, _^_, _<_}
+use lib.Bits.{bitXor}
+use Rattle.digits.specs.Digits.{digit, number, reversed, plus, minus, times}
+
+-- a number is determined by its digits, one below b ^ w by the lowest w; and digits make a number
+pub record Determined (b : ℕ) : Type 0 where
+  pub by-digits : (m n : ℕ) → ((k : ℕ) → digit b k m ≡ digit b k n) → m ≡ n
+  pub by-lowest : (w m n : ℕ) → m < b ^ w → n < b ^ w → ((k : ℕ) → k < w → digit b k m ≡ digit b k n) → m ≡ n
+  pub number-digit : (w k : ℕ) (d : ℕ → ℕ) → k < w → digit b k (number b w d) ≡ d k % b
+  pub number-below : (w : ℕ) (d : ℕ → ℕ) → number b w d < b ^ w
+
+-- what the three operations do at each place; with `Determined` this says all of them
+pub record DigitByDigit (b : ℕ) : Type 0 where
+  pub plus-digit : (m n k : ℕ) → digit b k (plus b m n) ≡ (digit b k m + digit b k n) % b
+  pub minus-digit : (m n k : ℕ) → digit b k (minus b m n) ≡ (digit b k m + (b - digit b k n)) % b
+  pub times-digit : (t n k : ℕ) → digit b k (times b t n) ≡ t * digit b k n % b
+
+-- the sum is a commutative group, and the difference is its difference
+pub record Group (b : ℕ) : Type 0 where
+  pub associative : (m n p : ℕ) → plus b (plus b m n) p ≡ plus b m (plus b n p)
+  pub commutative : (m n : ℕ) → plus b m n ≡ plus b n m
+  pub neutral : (n : ℕ) → plus b n 0 ≡ n
+  pub taken-added : (m n : ℕ) → plus b (minus b m n) n ≡ m
+  pub added-taken : (m n : ℕ) → minus b (plus b m n) n ≡ m
+
+-- quotient and remainder by a power of b are additive, so both parts of a number are added apart
+pub record Parts (b : ℕ) : Type 0 where
+  pub plus-quotient : (k m n : ℕ) → plus b m n / b ^ k ≡ plus b (m / b ^ k) (n / b ^ k)
+  pub plus-remainder : (k m n : ℕ) → plus b m n % b ^ k ≡ plus b (m % b ^ k) (n % b ^ k)
+  pub minus-quotient : (k m n : ℕ) → minus b m n / b ^ k ≡ minus b (m / b ^ k) (n / b ^ k)
+  pub minus-remainder : (k m n : ℕ) → minus b m n % b ^ k ≡ minus b (m % b ^ k) (n % b ^ k)
+  pub plus-below : (k m n : ℕ) → m < b ^ k → n < b ^ k → plus b m n < b ^ k
+  pub minus-below : (k m n : ℕ) → m < b ^ k → n < b ^ k → minus b m n < b ^ k
+
+-- in base two the sum and the difference are the exclusive or of the kit's library
+pub record ExclusiveOr : Type 0 where
+  pub plus-is : (m n : ℕ) → plus 2 m n ≡ bitXor m n
+  pub minus-is : (m n : ℕ) → minus 2 m n ≡ bitXor m n
+
+-- The reversal, place by place, and its laws: of two parts that are joined, of one digit more at either end, twice, by the reversal
+-- of more digits, and of a sum. Digits from place n on do not count.
+pub record Reversal (b : ℕ) : Type 0 where
+  pub places : (n i k : ℕ) → k < n → digit b k (reversed b n i) ≡ digit b (n - suc k) i
+  pub below : (n i : ℕ) → reversed b n i < b ^ n
+  pub joined : (m n k p : ℕ) → p < b ^ m → reversed b (m + n) (k * b ^ m + p) ≡ reversed b m p * b ^ n + reversed b n k
+  pub lowest : (n i : ℕ) → reversed b (suc n) i ≡ i % b * b ^ n + reversed b n (i / b)
+  pub highest : (n i : ℕ) → reversed b (suc n) i ≡ reversed b n i * b + digit b n i
+  pub twice : (n i : ℕ) → i < b ^ n → reversed b n (reversed b n i) ≡ i
+  pub shorter : (m n p : ℕ) → p < b ^ m → reversed b (m + n) p / b ^ n ≡ reversed b m p
+  pub remainder : (n i : ℕ) → reversed b n (i % b ^ n) ≡ reversed b n i
+  pub additive : (n i j : ℕ) → reversed b n (plus b i j) ≡ plus b (reversed b n i) (reversed b n j)

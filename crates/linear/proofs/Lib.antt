@@ -1,0 +1,13 @@
+pub mod Cases
+pub mod Sum
+pub mod Prime
+pub mod Pigeon
+pub mod Expand
+pub mod Columns
+pub mod Cramer
+pub mod Kernel
+pub mod Modulo
+pub mod Solution
+pub mod Divisor
+pub mod Theorem
+pub mod Examples

@@ -1,0 +1,27 @@
+-- What is proved of determinants modulo a prime p (proofs/Theorem), and the pigeonhole principle.
+use mathlib.Core.Path.{_≡_}
+use mathlib.Core.Logic.{_≢_, _↔_}
+use Prim.Native.Nat.{ℕ, suc, _+_, _*_, _%_, _<_}
+use Rattle.linear.specs.Unique.{One}
+use Rattle.linear.specs.Matrix.{Matrix, det, put}
+use Rattle.linear.specs.Solution.{Kernel, Trivial, Solves}
+
+pub record Determinant (p : ℕ) : Type 0 where
+  -- linear in each column, 0 where two columns are equal, of the other sign where two columns change places
+  pub linear : (n k a b : ℕ) (A : Matrix) (x y : ℕ → ℕ) → k < n
+      → det p n (put A k (λ r. a * x r + b * y r)) ≡ (a * det p n (put A k x) + b * det p n (put A k y)) % p
+  pub alternating : (n i k : ℕ) (A : Matrix) → i < n → k < n → i ≢ k → ((r : ℕ) → r < n → A r i % p ≡ A r k % p) → det p n A ≡ 0
+  pub swapped : (n k l : ℕ) (A : Matrix) (x y : ℕ → ℕ) → k < n → l < n → k ≢ l
+      → (det p n (put (put A k x) l y) + det p n (put (put A k y) l x)) % p ≡ 0
+  -- not 0 exactly where only 0 is sent to 0
+  pub nonzero-iff : (n : ℕ) (A : Matrix) → (det p n A ≢ 0) ↔ Trivial p n A
+  -- more columns than rows, or a square matrix with determinant 0
+  pub wide : (r n : ℕ) (A : Matrix) → r < n → Kernel p r n A
+  pub singular : (n : ℕ) (A : Matrix) → det p n A ≡ 0 → Kernel p n n A
+  -- each right-hand side has exactly one solution
+  pub solution : (n : ℕ) (A : Matrix) → det p n A ≢ 0 → (y : ℕ → ℕ) → ((r : ℕ) → r < n → y r < p) → One (Solves p n A y)
+
+-- a function from the numbers below N to themselves that takes no value twice takes each
+pub record Pigeonhole (N : ℕ) : Type 0 where
+  pub onto : (f : ℕ → ℕ) → ((i : ℕ) → i < N → f i < N) → ((i j : ℕ) → i < N → j < N → f i ≡ f j → i ≡ j)
+      → (y : ℕ) → y < N → (i : ℕ) × (i < N) × (f i ≡ y)
