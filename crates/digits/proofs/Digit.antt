@@ -22,6 +22,13 @@ module _ {b : ℕ} (big : 1 < b) where
   pub pow-div : (j k : ℕ) → b ^ (j + k) / b ^ k ≡ b ^ j
   pow-div j k = ap (λ (x : ℕ). x / b ^ k) (pow-add b j k) ∙ mul-div-cancel (b ^ j) (pow-pos k)
 
+  pub pow-lt : (j k : ℕ) → j < k → b ^ j < b ^ k
+  pow-lt j k h =
+      let p = pow-pos j in
+      let l = mul-le-mul-left (b ^ j) big in
+      let next : b ^ j < b ^ suc j = rw pow-suc (omega arith) in
+      lt-of-lt-of-le next (pow-le-pow-right pos h)
+
   pub div-suc : (k n : ℕ) → n / b / b ^ k ≡ n / b ^ suc k
   div-suc k n = div-div-eq-div-mul n b (b ^ k) ∙ ap (λ (x : ℕ). n / x) (sym (pow-succ' b k))
 

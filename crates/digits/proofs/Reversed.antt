@@ -28,9 +28,9 @@ module _ {b : ℕ} (big : 1 < b) where
   reversed-zero n = is-reversed n 0 0 (pow-pos big n) (λ k l. digit-zero big k ∙ sym (digit-zero big (n - suc k)))
 
   -- only the lowest n digits count
-  pub reversed-mod : (n i : ℕ) → reversed b n (i % b ^ n) ≡ reversed b n i
-  reversed-mod n i = is-reversed n (i % b ^ n) (reversed b n i) (reversed-lt n i) (λ k l.
-      digit-reversed n i k l ∙ sym (digit-mod big (n - suc k) n i (omega arith)))
+  pub reversed-mod : (m n i : ℕ) → n ≤ m → reversed b n (i % b ^ m) ≡ reversed b n i
+  reversed-mod m n i l = is-reversed n (i % b ^ m) (reversed b n i) (reversed-lt n i) (λ k h.
+      digit-reversed n i k h ∙ sym (digit-mod big (n - suc k) m i (omega arith)))
 
   pub reversed-join : (m n k p : ℕ) → p < b ^ m → reversed b (m + n) (k * b ^ m + p) ≡ reversed b m p * b ^ n + reversed b n k
   reversed-join m n k p h =

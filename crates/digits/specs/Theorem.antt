@@ -1,6 +1,6 @@
 -- What is proved of digits (proofs/Theorem), in every base b above 1 and for all numbers; `ExclusiveOr` is about base two.
 use mathlib.Core.Path.{_≡_}
-use Prim.Native.Nat.{ℕ, suc, _+_, _-_, _*_, _/_, _%_, _^_, _<_}
+use Prim.Native.Nat.{ℕ, suc, _+_, _-_, _*_, _/_, _%_, _^_, _≤_, _<_}
 use lib.Bits.{bitXor}
 use Rattle.digits.specs.Digits.{digit, number, reversed, plus, minus, times}
 
@@ -49,5 +49,5 @@ pub record Reversal (b : ℕ) : Type 0 where
   pub highest : (n i : ℕ) → reversed b (suc n) i ≡ reversed b n i * b + digit b n i
   pub twice : (n i : ℕ) → i < b ^ n → reversed b n (reversed b n i) ≡ i
   pub shorter : (m n p : ℕ) → p < b ^ m → reversed b (m + n) p / b ^ n ≡ reversed b m p
-  pub remainder : (n i : ℕ) → reversed b n (i % b ^ n) ≡ reversed b n i
+  pub remainder : (m n i : ℕ) → n ≤ m → reversed b n (i % b ^ m) ≡ reversed b n i
   pub additive : (n i j : ℕ) → reversed b n (plus b i j) ≡ plus b (reversed b n i) (reversed b n j)

@@ -1,0 +1,64 @@
+-- Elimination for a shape gives 01's j, or a basis that answers every query. Assumes nothing.
+use mathlib.Core.Path.{_≡_, sym, ap, ap₂, _∙_, subst}
+use mathlib.Core.List.{List}
+use Prim.Native.Nat.{ℕ, _-_, _^_, _<_}
+use native.Mathlib.Nat.{lt-of-lt-of-le, pow-le-pow-right}
+use native.Mathlib.Omega.{arith}
+use Rattle.digits.proofs.Digit.{pow-pos}
+use Rattle.linear.specs.Prime.{Prime}
+use Rattle.net.specs.Generators.{Generators}
+use Rattle.net.specs.Sequence.{Sequence, Finds, Apart}
+use Rattle.net.specs.Finish.{plain, shifted}
+use Rattle.net.specs.Shape.{Shape}
+use Rattle.net.specs.Elimination.{serial, interval, Choice, Entry, solve, Outcome, kernel, basis, eliminate-shape, basis-index}
+use Rattle.net.specs.Theorem.{Solved, Eliminated}
+use Rattle.net.proofs.Finish.{unshifted}
+use Rattle.net.proofs.Interval.{interval-additive, interval-lt, interval-of-share, share-of-interval, interval-zero}
+use Rattle.net.proofs.Shape.{apart-iff}
+use Rattle.net.proofs.Net.{stratified}
+use Rattle.net.proofs.Elimination.{Sound, eliminate-sound}
+
+module _ {G : Generators} {m a : ℕ} (shape : Shape G m a) (prime : Prime (G .b)) where
+  open Generators G using (b, R)
+
+  module _ (fs : List Entry) (back : (i : ℕ) → i < b ^ m → solve b (interval (plain G) m a) fs (interval (plain G) m a i) ≡ i) where
+    apart : Apart (plain G) m a
+    apart i j hi hj s = sym (back i hi) ∙ ap (solve b (interval (plain G) m a) fs) (interval-of-share shape i j s) ∙ back j hj
+
+    -- the relation names the plain index p; its interval is the one that the basis is asked for
+    answers : (s t : ℕ) → s < b ^ R → t < b ^ R → (k : ℕ) → Finds (shifted G s t) m a k (basis-index G (shifted G s t) fs m a k)
+    unfolding basis-index interval
+    answers s t hs ht k c r hc hr =
+        let (p, related) = stratified shape apart .relation s t hs ht k c r hc hr in
+        let there = related .plain-visit .holds in
+        let below : p < b ^ m = let h = there .in-block .below in omega arith in
+        let same = ap (solve b (interval (plain G) m a) fs) (sym (ap₂ (serial b (m - a)) (there .in-column) (there .in-row))) ∙ back p below in
+        rw same (related .visit)
+
+    solved : Solved G m a fs
+    solved = record {
+      nonzero = apart-iff shape prime .1 apart;
+      answers-shifted = answers;
+      answers-plain = λ k.
+          let positive = pow-pos (prime .big) R in
+          subst (λ (S : Sequence). Finds S m a k (basis-index G S fs m a k)) (unshifted G (prime .big)) (answers 0 0 positive positive k);
+    }
+
+  pub eliminated : (C : Choice b R) → Eliminated G m a (eliminate-shape G C m a)
+  unfolding eliminate-shape
+  eliminated C = read (eliminate-shape G C m a) (eliminate-sound prime (interval-additive shape) C small m)
+    where
+      small : (i : ℕ) → interval (plain G) m a i < b ^ R
+      small i = lt-of-lt-of-le (interval-lt shape i) (pow-le-pow-right (omega (arith, prime .big)) (shape .fits))
+
+      origin : interval (plain G) m a 0 ≡ 0
+      origin = interval-zero shape
+
+      read : (o : Outcome) → Sound b (interval (plain G) m a) m o → Eliminated G m a o
+      read (kernel j) (below, s) = record {
+        positive = s .positive;
+        below = below;
+        shares = share-of-interval shape j 0 (s .vanishes ∙ sym origin);
+        least = λ i h q. s .least i h (interval-of-share shape i 0 q ∙ origin);
+      }
+      read (basis fs) back = solved fs back

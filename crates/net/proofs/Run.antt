@@ -1,0 +1,111 @@
+-- Ranges of indexes and lists made of them: parts, lengths, elements, and how many pass a test. Assumes nothing.
+use mathlib.Core.Path.{_≡_, refl, sym, ap, ap₂, _∙_}
+use mathlib.Core.Logic.{_⊎_, inl, inr}
+use mathlib.Core.Bool.{Bool, true, false}
+use mathlib.Core.List.{List, [], _∷_, _++_, map}
+use Prim.Native.Nat.{ℕ, zero, suc, _+_, _-_, _*_, _^_, _≤_, _<_}
+use native.Mathlib.Nat.{suc-add, add-suc}
+use native.Mathlib.Omega.{arith}
+use lib.ListN.{length, getD, take, drop}
+use Rattle.linear.proofs.Cases.{eq-or-ne}
+use Rattle.net.specs.Sequence.{Sequence, Finds}
+use Rattle.net.specs.Check.{lies}
+use Rattle.net.specs.Run.{range, visit, visits, run, count, hits}
+use Rattle.net.specs.Theorem.{Runs}
+use Rattle.net.proofs.Search.{clash, lies-of, of-lies}
+
+pub range-add : (s p q : ℕ) → range s (p + q) ≡ range s p ++ range (s + p) q
+unfolding range
+range-add s zero q = let e : 0 + q ≡ q = omega arith in let f : s ≡ s + 0 = omega arith in ap₂ range f e
+range-add s (suc p) q =
+    let e : suc s + p ≡ s + suc p = omega arith in
+    ap (range s) (suc-add p q) ∙ ap (λ (l : List ℕ). s ∷ l) (range-add (suc s) p q ∙ ap (λ (t : ℕ). range (suc s) p ++ range t q) e)
+
+module _ {A : Type 0} (f : ℕ → A) where
+  pub length-each : (s n : ℕ) → length (map f (range s n)) ≡ n
+  unfolding range
+  length-each s zero = refl
+  length-each s (suc n) = ap suc (length-each (suc s) n)
+
+  pub getD-each : (s n i : ℕ) (d : A) → i < n → getD (map f (range s n)) i d ≡ f (s + i)
+  unfolding range
+  getD-each s zero i d h = absurd (omega arith)
+  getD-each s (suc n) zero d h = ap f (omega arith)
+  getD-each s (suc n) (suc i) d h = getD-each (suc s) n i d (omega arith) ∙ ap f (omega arith)
+
+  pub take-each : (s n j : ℕ) → j ≤ n → take j (map f (range s n)) ≡ map f (range s j)
+  unfolding range
+  take-each s n zero h = refl
+  take-each s zero (suc j) h = absurd (omega arith)
+  take-each s (suc n) (suc j) h = ap (λ (l : List A). f s ∷ l) (take-each (suc s) n j (omega arith))
+
+  pub drop-each : (s n p : ℕ) → p ≤ n → drop p (map f (range s n)) ≡ map f (range (s + p) (n - p))
+  unfolding range
+  drop-each s n zero h = let e : s ≡ s + 0 = omega arith in let k : n ≡ n - 0 = omega arith in ap₂ (λ (t c : ℕ). map f (range t c)) e k
+  drop-each s zero (suc p) h = absurd (omega arith)
+  drop-each s (suc n) (suc p) h =
+      let e : suc s + p ≡ s + suc p = omega arith in
+      let k : n - p ≡ suc n - suc p = omega arith in
+      drop-each (suc s) n p (omega arith) ∙ ap₂ (λ (t c : ℕ). map f (range t c)) e k
+
+-- ---- how many pass a test
+
+pub count-map : {A : Type 0} (test : A → Bool) (f : ℕ → A) (l : List ℕ) → count test (map f l) ≡ count (λ i. test (f i)) l
+unfolding count
+count-map test f [] = refl
+count-map test f (i ∷ l) =
+    ap (λ (n : ℕ). elim (test (f i)) [ true ↦ suc n | false ↦ n ]) (count-map test f l)
+
+module _ (test : ℕ → Bool) where
+  abbrev more : Bool → ℕ → ℕ
+  more t n = elim t [ true ↦ suc n | false ↦ n ]
+
+  -- none of the range, and just one
+  pub count-none : (s n : ℕ) → ((i : ℕ) → s ≤ i → i < s + n → test i ≡ false) → count test (range s n) ≡ 0
+  unfolding count range
+  count-none s zero h = refl
+  count-none s (suc n) h =
+      ap (λ (t : Bool). more t (count test (range (suc s) n))) (h s (omega arith) (omega arith))
+      ∙ count-none (suc s) n (λ i l u. h i (omega arith) (omega arith))
+
+  pub count-one : (s n i : ℕ) → s ≤ i → i < s + n → test i ≡ true → ((j : ℕ) → s ≤ j → j < s + n → test j ≡ true → j ≡ i)
+      → count test (range s n) ≡ 1
+  unfolding count range
+  count-one s zero i l u hit only = absurd (omega arith)
+  count-one s (suc n) i l u hit only = go (eq-or-ne s i) (test s) refl (λ a b p q. count-one (suc s) n i a b p q)
+    where
+      not-here : (j : ℕ) (t : Bool) → test j ≡ t → s ≤ j → j < s + suc n → (j ≡ i → ⊥) → t ≡ false
+      not-here j true e a b ne = absurd (ne (only j a b e))
+      not-here j false e a b ne = refl
+
+      Rest : Type 0
+      Rest = suc s ≤ i → i < suc s + n → test i ≡ true → ((j : ℕ) → suc s ≤ j → j < suc s + n → test j ≡ true → j ≡ i)
+          → count test (range (suc s) n) ≡ 1
+
+      go : (s ≡ i) ⊎ (s ≡ i → ⊥) → (t : Bool) → test s ≡ t → Rest → more t (count test (range (suc s) n)) ≡ 1
+      go (inl e) true h rest = ap suc (count-none (suc s) n (λ j a b. not-here j (test j) refl (omega arith) (omega arith) (omega arith)))
+      go (inl e) false h rest = absurd (clash (ap test e ∙ hit) h)
+      go (inr ne) true h rest = absurd (ne (only s (omega arith) (omega arith) h))
+      go (inr ne) false h rest = rest (omega arith) (omega arith) hit (λ j a b. only j (omega arith) (omega arith))
+
+-- ---- runs
+
+pub runs : (S : Sequence) (m k : ℕ) → Runs S m k
+runs S m k = record { one-hit = one-hit; part = part }
+  where
+    one-hit : (a : ℕ) (find : ℕ → ℕ → ℕ) → Finds S m a k find → (c r : ℕ) → c < S .b ^ a → r < S .b ^ (m - a) → hits S m a c r (run S m k) ≡ 1
+    one-hit a find finds c r hc hr =
+        let one = finds c r hc hr in
+        let from = one .holds .in-block .from in
+        let below = one .holds .in-block .below in
+        count-map _ (visit S) (range (k * S .b ^ m) (S .b ^ m))
+        ∙ count-one (lies S m a c r) (k * S .b ^ m) (S .b ^ m) (find c r) from (omega arith)
+        (lies-of S m a c r (find c r) (one .holds .in-column) (one .holds .in-row))
+        (λ j l u hit.
+          let (p, q) = of-lies S m a c r j hit in
+          one .only j (record { in-block = record { from = l; below = omega arith }; in-column = p; in-row = q }))
+
+    part : (p n : ℕ) → p + n ≤ S .b ^ m → take n (drop p (run S m k)) ≡ visits S (k * S .b ^ m + p) n
+    part p n h =
+        ap (take n) (drop-each (visit S) (k * S .b ^ m) (S .b ^ m) p (omega arith))
+        ∙ take-each (visit S) (k * S .b ^ m + p) (S .b ^ m - p) n (omega arith)

@@ -1,0 +1,20 @@
+-- The query: the index of a block that visits an interval, or the shape is no net.
+use Prim.Native.Nat.{ℕ, zero, suc, _+_, _*_, _^_}
+use Rattle.net.specs.Generators.{Generators}
+use Rattle.net.specs.Sequence.{Sequence}
+use Rattle.net.specs.Finish.{Finish, plain, digital}
+use Rattle.net.specs.Shape.{determinant}
+use Rattle.net.specs.Check.{search, lies, least-index}
+
+-- the first index of block k in column c and row r; where there is none, the first of the next block
+unfoldable pub visit-index : Sequence → ℕ → ℕ → ℕ → ℕ → ℕ → ℕ
+visit-index S m a k c r = k * S .b ^ m + search (S .b ^ m) (λ p. lies S m a c r (k * S .b ^ m + p))
+
+-- an index, or the j of a shape that is no net
+pub data Location : Type 0 where
+  found : (i : ℕ) → Location
+  no-net : (j : ℕ) → Location
+
+unfoldable pub locate : Generators → Finish → ℕ → ℕ → ℕ → ℕ → ℕ → Location
+locate G F m a k c r =
+    elim (determinant G m a) [ zero ↦ no-net (least-index (plain G) m a) | suc d ↦ found (visit-index (digital G F) m a k c r) ]
