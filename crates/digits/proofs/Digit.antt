@@ -1,7 +1,9 @@
 -- The digits of a number: they determine it, and an operation digit by digit acts on each of them. Assumes nothing.
 use mathlib.Core.Path.{_≡_, refl, sym, ap, ap₂, _∙_}
 use Prim.Native.Nat.{ℕ, zero, suc, _+_, _*_, _/_, _%_, _^_, _≤_, _<_}
-use native.Mathlib.Nat.{one-mul, lt-of-lt-of-le, pow-le-pow-right, mul-le-mul-left, mul-div-cancel, one-le-pow, mul-mod-left, pow-zero, pow-suc, pow-succ', div-one, div-div-eq-div-mul, zero-div, zero-mod, mod-lt, div-eq-of-lt, div-add-mod', div-lt-iff-lt-mul, div-lt-self}
+use native.Mathlib.Nat.{one-mul, lt-of-lt-of-le, pow-le-pow-right, mul-le-mul-left, mul-div-cancel, one-le-pow, mul-mod-left}
+use native.Mathlib.Nat.{pow-zero, pow-suc, pow-succ', div-one, div-div-eq-div-mul, zero-div, zero-mod, mod-lt, div-eq-of-lt}
+use native.Mathlib.Nat.{div-add-mod', div-lt-iff-lt-mul, div-lt-self}
 use native.Mathlib.Omega.{arith}
 use lib.Arith.{digits-div, digits-mod, digits-lt, mod-mul}
 use lib.Pow.{pow-add}
@@ -167,7 +169,8 @@ module _ {b : ℕ} (big : 1 < b) where
         last = mod-lt (f (m % b) (n % b)) pos
 
         go : (s : ℕ) → m + n ≡ s → (k : ℕ) → ((k : ℕ) → digit b k (digitwise b f w (m / b) (n / b)) ≡ f (digit b k (m / b)) (digit b k (n / b)) % b)
-            → digit b k (elim s [ zero ↦ 0 | suc s ↦ digitwise b f w (m / b) (n / b) * b + f (m % b) (n % b) % b ]) ≡ f (digit b k m) (digit b k n) % b
+            → digit b k (elim s [ zero ↦ 0 | suc s ↦ digitwise b f w (m / b) (n / b) * b + f (m % b) (n % b) % b ])
+            ≡ f (digit b k m) (digit b k n) % b
         go zero e k ih = blank m n k (omega arith) (omega arith)
         go (suc s) e zero ih =
             digit-cons-low (digitwise b f w (m / b) (n / b)) (f (m % b) (n % b) % b) last

@@ -8,7 +8,8 @@ use native.Mathlib.Omega.{arith}
 use lib.Arith.{digits-div, digits-lt}
 use lib.Pow.{pow-add}
 use Rattle.digits.specs.Digits.{digit, number, reversed, plus}
-use Rattle.digits.proofs.Digit.{pow-pos, digit-lt, digit-low, digit-zero, digit-suc, digit-cons-low, digit-cons-suc, digit-mod, digit-number, number-lt, ext-below, digit-join-low, digit-join-high}
+use Rattle.digits.proofs.Digit.{pow-pos, digit-lt, digit-low, digit-zero, digit-suc, digit-cons-low, digit-cons-suc}
+use Rattle.digits.proofs.Digit.{digit-mod, digit-number, number-lt, ext-below, digit-join-low, digit-join-high}
 use Rattle.digits.proofs.Arithmetic.{digit-plus, plus-lt}
 
 module _ {b : ℕ} (big : 1 < b) where
@@ -68,7 +69,9 @@ module _ {b : ℕ} (big : 1 < b) where
       (rw pow-suc (digits-lt (reversed-lt n i) (mod-lt (i / b ^ n) (omega arith)))) go
     where
       go : (k : ℕ) → k < suc n → digit b k (reversed b n i * b + digit b n i) ≡ digit b (suc n - suc k) i
-      go zero l = let e : suc n - 1 ≡ n = omega arith in digit-cons-low big (reversed b n i) (digit b n i) (digit-lt big n i) ∙ ap (λ (x : ℕ). digit b x i) (sym e)
+      go zero l =
+          let e : suc n - 1 ≡ n = omega arith in
+          digit-cons-low big (reversed b n i) (digit b n i) (digit-lt big n i) ∙ ap (λ (x : ℕ). digit b x i) (sym e)
       go (suc k) l =
           let e : n - suc k ≡ suc n - suc (suc k) = omega arith in
           digit-cons-suc big k (reversed b n i) (digit b n i) (digit-lt big n i) ∙ digit-reversed n i k (omega arith) ∙ ap (λ (x : ℕ). digit b x i) e

@@ -62,7 +62,7 @@ module _ {b p : ℕ} (big : 1 < b) (above : 1 < p) (divides : p ∣ b) where
       go (suc q) e = let f : b - 1 ≡ q * p + (p - 1) = omega arith in ap (λ (x : ℕ). x % p) f ∙ mul-add-mod-self-right q p (p - 1)
 
   signs : (j : ℕ) → (b - 1) ^ j % p ≡ (p - 1) ^ j % p
-  signs zero = rw (pow-zero, pow-zero) refl
+  signs zero = rw (pow-zero (b - 1), pow-zero (p - 1)) refl
   signs (suc j) = rw (pow-suc (b - 1) j, pow-suc (p - 1) j) (mul-cong p ((b - 1) ^ j) ((p - 1) ^ j) (b - 1) (p - 1) (signs j) sign)
 
   expands : (n : ℕ) (A : Matrix) → expand (b - 1) n A % p ≡ expand (p - 1) n A % p

@@ -41,7 +41,8 @@ module _ {p : ℕ} (big : 1 < p) where
   unfolding det
   det-mod zero A B h = refl
   det-mod (suc n) A B h = sum-cong p (suc n) (λ j. (p - 1) ^ j * A 0 j * det p n (minor A j)) (λ j. (p - 1) ^ j * B 0 j * det p n (minor B j)) (λ j l.
-      ap (λ (x : ℕ). (p - 1) ^ j * A 0 j * x % p) (det-mod n (minor A j) (minor B j) (λ r c hr hc. h (suc r) (skip j c) (omega arith) (skip-lt n j c hc)))
+      ap (λ (x : ℕ). (p - 1) ^ j * A 0 j * x % p)
+      (det-mod n (minor A j) (minor B j) (λ r c hr hc. h (suc r) (skip j c) (omega arith) (skip-lt n j c hc)))
       ∙ mul-cong p ((p - 1) ^ j * A 0 j) ((p - 1) ^ j * B 0 j) (det p n (minor B j)) (det p n (minor B j))
       (mul-cong p ((p - 1) ^ j) ((p - 1) ^ j) (A 0 j) (B 0 j) refl (h 0 j (omega arith) l)) refl)
 
@@ -90,7 +91,8 @@ module _ {p : ℕ} (big : 1 < p) where
   pub cramer-rule : (n k : ℕ) (A : Matrix) (v : ℕ → ℕ) → k < n → ((r : ℕ) → r < n → image p n A v r ≡ 0) → det p n A * v k % p ≡ 0
   cramer-rule n k A v h z =
       let d = cramer (p - 1) n k A v h (λ r hr. rw next (dvd-of-mod-eq-zero p (z r hr))) in
-      ap (λ (x : ℕ). x * v k % p) (det-is n A) ∙ ap (λ (x : ℕ). x % p) (omega arith) ∙ mul-mod p (v k) (expand (p - 1) n A) ∙ mod-eq-zero-of-dvd p (rw next at d)
+      ap (λ (x : ℕ). x * v k % p) (det-is n A) ∙ ap (λ (x : ℕ). x % p) (omega arith) ∙ mul-mod p (v k) (expand (p - 1) n A)
+      ∙ mod-eq-zero-of-dvd p (rw next at d)
 
 module _ {p : ℕ} (P : Prime p) where
   shifted : Prime (suc (p - 1))

@@ -6,14 +6,16 @@ use mathlib.Core.Bool.{true, false}
 use mathlib.Core.List.{List, _∷_, map}
 use Prim.Native.Nat.{ℕ, zero, suc, _+_, _-_, _*_, _/_, _%_, _^_, _≤_, _<_}
 use native.Mathlib.Nat.{mod-one, mod-mod, mod-lt, mod-eq-of-lt, div-self, div-eq-of-lt, mul-mod-left, pow-zero, pow-suc, zero-mod, zero-div}
-use native.Mathlib.Nat.{add-zero, add-mod, div-div-eq-div-mul, pow-le-pow-right, lt-of-lt-of-le, mul-div-cancel, lt-of-le-of-lt, div-le-self, div-lt-self}
+use native.Mathlib.Nat.{add-zero, add-mod, div-div-eq-div-mul, pow-le-pow-right, lt-of-lt-of-le, mul-div-cancel, lt-of-le-of-lt}
+use native.Mathlib.Nat.{div-le-self, div-lt-self}
 use native.Mathlib.Omega.{arith}
 use borrow.Author.Tests.{lt-ltb, le-ltb, eq-eqb, ne-eqb}
 use lib.Arith.{digits-div, digits-mod}
 use lib.Dec.{eqb}
 use lib.ListN.{getD}
 use Rattle.digits.specs.Digits.{digit, number, reversed, plus, times}
-use Rattle.digits.proofs.Digit.{pow-pos, pow-one, pow-lt, pow-div, digit-suc, digit-high, digit-zero, digit-number, number-lt, ext-below, lt-pow, mod-pow-suc}
+use Rattle.digits.proofs.Digit.{pow-pos, pow-one, pow-lt, pow-div, digit-suc, digit-high, digit-zero, digit-number, number-lt}
+use Rattle.digits.proofs.Digit.{ext-below, lt-pow, mod-pow-suc}
 use Rattle.digits.proofs.Arithmetic.{digit-plus, plus-lt, plus-split, times-pow, times-of-zero}
 use Rattle.digits.proofs.Reversed.{reversed-lt, reversed-zero, reversed-more, reversed-suc, reversed-mod}
 use Rattle.linear.proofs.Cases.{lt-or-ge, eq-or-ne}

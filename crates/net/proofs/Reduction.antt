@@ -68,7 +68,8 @@ module _ {b : ℕ} {L : ℕ → ℕ} (A : Additive b L) where
       go (inr at) ih =
           digit-minus big (L r) (times b s (L (f .index))) q
           ∙ ap (λ (z : ℕ). (digit b q (L r) + (b - z)) % b) (digit-times big s (L (f .index)) q)
-          ∙ rw at (cancels (digit b (f .pivot) (L r)) (digit b (f .pivot) (L (f .index))) (f .inverse) (digit-lt big (f .pivot) (L r)) (B .0 .inverse))
+          ∙ rw at (cancels (digit b (f .pivot) (L r)) (digit b (f .pivot) (L (f .index))) (f .inverse) (digit-lt big (f .pivot) (L r))
+          (B .0 .inverse))
 
   pub reduce-top : (c : ℕ) (fs : List Entry) → Basis b L c fs → (e : ℕ) → reduce b L fs e / b ^ c ≡ e / b ^ c
   unfolding reduce

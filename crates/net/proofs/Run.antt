@@ -102,8 +102,8 @@ runs S m k = record { one-hit = one-hit; part = part }
         ∙ count-one (lies S m a c r) (k * S .b ^ m) (S .b ^ m) (find c r) from (omega arith)
         (lies-of S m a c r (find c r) (one .holds .in-column) (one .holds .in-row))
         (λ j l u hit.
-          let (p, q) = of-lies S m a c r j hit in
-          one .only j (record { in-block = record { from = l; below = omega arith }; in-column = p; in-row = q }))
+        let (p, q) = of-lies S m a c r j hit in
+        one .only j (record { in-block = record { from = l; below = omega arith }; in-column = p; in-row = q }))
 
     part : (p n : ℕ) → p + n ≤ S .b ^ m → take n (drop p (run S m k)) ≡ visits S (k * S .b ^ m + p) n
     part p n h =

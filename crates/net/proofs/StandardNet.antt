@@ -24,7 +24,8 @@ use Rattle.net.proofs.Run.{getD-each}
 use Rattle.net.proofs.Shape.{alone-iff, apart-of-alone}
 use Rattle.net.proofs.Net.{stratified}
 use Rattle.net.proofs.Standard.{alone}
-use Rattle.net.proofs.Columns.{same, identity-low, identity-step, identity-entry, pascal-entry, pascal-step, standard-valid, standard-is, identity-product}
+use Rattle.net.proofs.Columns.{same, identity-low, identity-step, identity-entry, pascal-entry, pascal-step}
+use Rattle.net.proofs.Columns.{standard-valid, standard-is, identity-product}
 
 -- column c of a matrix that is made over a range
 column-at : (f : ℕ → ℕ) (n c : ℕ) → c < n → getD (map f (range 0 n)) c 0 ≡ f c

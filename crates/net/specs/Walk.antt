@@ -27,12 +27,15 @@ pub record Stepped (A : Type 0) : Type 0 where
 unfoldable pub step : {A : Type 0} → (ℕ → A) → ℕ → Walk → Stepped A
 step visit last w =
     elim (eqb (w .left) 0) [
-      true ↦ record { answer = ended; walk = w }
-    | false ↦ elim (ltb last (w .next)) [
-      true ↦ record { answer = ended; walk = w }
-    | false ↦ elim (eqb (w .next) last) [
-      true ↦ record { answer = visited (visit (w .next)); walk = record { next = w .next; left = 0 } }
-    | false ↦ record { answer = visited (visit (w .next)); walk = record { next = w .next + 1; left = w .left - 1 } } ] ] ]
+      | true ↦ record { answer = ended; walk = w }
+      | false ↦ elim (ltb last (w .next)) [
+        | true ↦ record { answer = ended; walk = w }
+        | false ↦ elim (eqb (w .next) last) [
+          | true ↦ record { answer = visited (visit (w .next)); walk = record { next = w .next; left = 0 } }
+          | false ↦ record { answer = visited (visit (w .next)); walk = record { next = w .next + 1; left = w .left - 1 } }
+        ]
+      ]
+    ]
 
 -- the answers of n steps, each on the walk that the one before it handed back; and the walk after them
 unfoldable pub answers : {A : Type 0} → (ℕ → A) → ℕ → ℕ → Walk → List (Answer A)
