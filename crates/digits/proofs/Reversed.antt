@@ -1,13 +1,12 @@
 -- Digits in the opposite order: each law is an equation at every place. Assumes nothing.
 use mathlib.Core.Path.{_≡_, sym, ap, ap₂, _∙_}
-use mathlib.Core.Logic.{_⊎_, inl, inr}
 use Prim.Native.Nat.{ℕ, zero, suc, _+_, _-_, _*_, _/_, _%_, _^_, _≤_, _<_}
 use native.Mathlib.Nat.{mod-mod, mod-lt, pow-suc, pow-succ'}
 use native.Mathlib.Decide.{decLt}
 use native.Mathlib.Omega.{arith}
 use lib.Arith.{digits-div, digits-lt}
 use lib.Pow.{pow-add}
-use Rattle.digits.specs.Digits.{digit, number, reversed, plus}
+use Rattle.digits.specs.Digits.{digit, reversed, plus}
 use Rattle.digits.proofs.Digit.{pow-pos, digit-lt, digit-low, digit-zero, digit-suc, digit-cons-low, digit-cons-suc}
 use Rattle.digits.proofs.Digit.{digit-mod, digit-number, number-lt, ext-below, digit-join-low, digit-join-high}
 use Rattle.digits.proofs.Arithmetic.{digit-plus, plus-lt}

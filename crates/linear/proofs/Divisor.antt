@@ -5,7 +5,7 @@ use Prim.Native.Nat.{ℕ, zero, suc, _+_, _-_, _*_, _/_, _%_, _^_, _≤_, _<_, _
 use native.Mathlib.Nat.{pow-zero, pow-suc, dvd-refl, dvd-trans, dvd-of-mod-eq-zero, mod-mod-of-dvd, mul-div-cancel', mul-add-mod-self-right}
 use native.Mathlib.Decide.{decLt, ℕ-discrete}
 use native.Mathlib.Omega.{arith}
-use Rattle.digits.proofs.Remainder.{mul-mod, mul-cong}
+use Rattle.digits.proofs.Remainder.{mul-cong}
 use Rattle.linear.specs.Prime.{Prime}
 use Rattle.linear.specs.Matrix.{Matrix, minor, det}
 use Rattle.linear.proofs.Cases.{find}

@@ -1,7 +1,7 @@
 -- What is proved of determinants modulo a prime p (proofs/Theorem), and the pigeonhole principle.
 use mathlib.Core.Path.{_≡_}
 use mathlib.Core.Logic.{_≢_, _↔_}
-use Prim.Native.Nat.{ℕ, suc, _+_, _*_, _%_, _<_}
+use Prim.Native.Nat.{ℕ, _+_, _*_, _%_, _<_}
 use Rattle.linear.specs.Unique.{One}
 use Rattle.linear.specs.Matrix.{Matrix, det, put}
 use Rattle.linear.specs.Solution.{Kernel, Trivial, Solves}

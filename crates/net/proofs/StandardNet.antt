@@ -9,7 +9,6 @@ use native.Mathlib.Omega.{arith}
 use borrow.Author.Tests.{lt-ltb, le-ltb}
 use lib.ListN.{getD}
 use Rattle.digits.specs.Digits.{digit, plus}
-use Rattle.linear.specs.Matrix.{det}
 use Rattle.linear.proofs.Cases.{lt-or-ge}
 use Rattle.linear.proofs.Modulo.{det-mod}
 use Rattle.linear.proofs.Divisor.{prime-divisor, det-divisor}

@@ -1,9 +1,8 @@
 -- A walk over visits: one step, and what n steps give, for any visits and any last index.
-use mathlib.Core.Path.{_≡_}
 use mathlib.Core.Bool.{true, false}
 use mathlib.Core.List.{List, [], _∷_, _++_, map}
 use Prim.Native.Nat.{ℕ, zero, suc, _+_, _-_, min}
-use lib.Dec.{eqb, ltb}
+use lib.Dec.{eqb, leb, ltb}
 use lib.ListN.{replicate}
 use Rattle.net.specs.Run.{range}
 
