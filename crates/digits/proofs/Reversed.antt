@@ -14,7 +14,7 @@ use Rattle.digits.proofs.Arithmetic.{digit-plus, plus-lt}
 module _ {b : ℕ} (big : 1 < b) where
   pub reversed-lt : (n i : ℕ) → reversed b n i < b ^ n
   unfolding reversed
-  reversed-lt n i = number-lt big n (λ k. digit b (n - suc k) i)
+  reversed-lt n i = number-lt big n _
 
   pub digit-reversed : (n i k : ℕ) → k < n → digit b k (reversed b n i) ≡ digit b (n - suc k) i
   unfolding reversed

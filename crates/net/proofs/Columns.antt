@@ -97,7 +97,7 @@ module _ {b : ℕ} (big : 1 < b) (R : ℕ) where
 
   pub pascal-lt : (c : ℕ) → pascal-column b R c < b ^ R
   unfolding pascal-column
-  pascal-lt c = number-lt big R (λ k. binomial c (R - suc k))
+  pascal-lt c = number-lt big R _
 
   pascal-digit : (c k : ℕ) → k < R → digit b k (pascal-column b R c) ≡ binomial c (R - suc k) % b
   unfolding pascal-column

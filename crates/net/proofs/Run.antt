@@ -10,7 +10,7 @@ use lib.ListN.{length, getD, take, drop}
 use Rattle.linear.proofs.Cases.{eq-or-ne}
 use Rattle.net.specs.Sequence.{Sequence, Finds}
 use Rattle.net.specs.Check.{lies}
-use Rattle.net.specs.Run.{range, visit, visits, run, count, hits}
+use Rattle.net.specs.Run.{range, visit, visits, run, one, count, hits}
 use Rattle.net.specs.Theorem.{Runs}
 use Rattle.net.proofs.Search.{clash, lies-of, of-lies}
 
@@ -53,40 +53,38 @@ module _ {A : Type 0} (f : ℕ → A) where
 pub count-map : {A : Type 0} (test : A → Bool) (f : ℕ → A) (l : List ℕ) → count test (map f l) ≡ count (λ i. test (f i)) l
 unfolding count
 count-map test f [] = refl
-count-map test f (i ∷ l) =
-    ap (λ (n : ℕ). elim (test (f i)) [ true ↦ suc n | false ↦ n ]) (count-map test f l)
+count-map test f (i ∷ l) = ap (λ (n : ℕ). one (test (f i)) + n) (count-map test f l)
 
 module _ (test : ℕ → Bool) where
-  abbrev more : Bool → ℕ → ℕ
-  more t n = elim t [ true ↦ suc n | false ↦ n ]
-
   -- none of the range, and just one
   pub count-none : (s n : ℕ) → ((i : ℕ) → s ≤ i → i < s + n → test i ≡ false) → count test (range s n) ≡ 0
-  unfolding count range
+  unfolding count range one
   count-none s zero h = refl
   count-none s (suc n) h =
-      ap (λ (t : Bool). more t (count test (range (suc s) n))) (h s (omega arith) (omega arith))
-      ∙ count-none (suc s) n (λ i l u. h i (omega arith) (omega arith))
+      let rest = count-none (suc s) n (λ i l u. h i (omega arith) (omega arith)) in
+      ap₂ (λ (t : Bool) (k : ℕ). one t + k) (h s (omega arith) (omega arith)) rest
 
   pub count-one : (s n i : ℕ) → s ≤ i → i < s + n → test i ≡ true → ((j : ℕ) → s ≤ j → j < s + n → test j ≡ true → j ≡ i)
       → count test (range s n) ≡ 1
-  unfolding count range
+  unfolding count range one
   count-one s zero i l u hit only = absurd (omega arith)
   count-one s (suc n) i l u hit only = go (eq-or-ne s i) (test s) refl (λ a b p q. count-one (suc s) n i a b p q)
     where
-      not-here : (j : ℕ) (t : Bool) → test j ≡ t → s ≤ j → j < s + suc n → (j ≡ i → ⊥) → t ≡ false
-      not-here j true e a b ne = absurd (ne (only j a b e))
-      not-here j false e a b ne = refl
+      other : (j : ℕ) (t : Bool) → test j ≡ t → s ≤ j → j < s + suc n → (j ≡ i → ⊥) → t ≡ false
+      other j true e a b ne = absurd (ne (only j a b e))
+      other j false e a b ne = refl
 
       Rest : Type 0
       Rest = suc s ≤ i → i < suc s + n → test i ≡ true → ((j : ℕ) → suc s ≤ j → j < suc s + n → test j ≡ true → j ≡ i)
           → count test (range (suc s) n) ≡ 1
 
-      go : (s ≡ i) ⊎ (s ≡ i → ⊥) → (t : Bool) → test s ≡ t → Rest → more t (count test (range (suc s) n)) ≡ 1
-      go (inl e) true h rest = ap suc (count-none (suc s) n (λ j a b. not-here j (test j) refl (omega arith) (omega arith) (omega arith)))
+      go : (s ≡ i) ⊎ (s ≡ i → ⊥) → (t : Bool) → test s ≡ t → Rest → one t + count test (range (suc s) n) ≡ 1
+      go (inl e) true h rest =
+          ap (λ (k : ℕ). 1 + k) (count-none (suc s) n (λ j a b. other j (test j) refl (omega arith) (omega arith) (omega arith)))
       go (inl e) false h rest = absurd (clash (ap test e ∙ hit) h)
       go (inr ne) true h rest = absurd (ne (only s (omega arith) (omega arith) h))
-      go (inr ne) false h rest = rest (omega arith) (omega arith) hit (λ j a b. only j (omega arith) (omega arith))
+      go (inr ne) false h rest =
+          ap (λ (k : ℕ). 0 + k) (rest (omega arith) (omega arith) hit (λ j a b. only j (omega arith) (omega arith)))
 
 -- ---- runs
 

@@ -45,20 +45,20 @@ module _ {A : Type 0} (visit : ℕ → A) where
   module _ (last : ℕ) where
     -- ---- the cases of a step
 
-    step-none : (s : ℕ) → step visit last (at s 0) ≡ record { answer = ended; walk = at s 0 }
+    pub step-none : (s : ℕ) → step visit last (at s 0) ≡ record { answer = ended; walk = at s 0 }
     unfolding step
     step-none s = refl
 
-    step-past : (s l : ℕ) → last < s → step visit last (at s l) ≡ record { answer = ended; walk = at s l }
+    pub step-past : (s l : ℕ) → last < s → step visit last (at s l) ≡ record { answer = ended; walk = at s l }
     unfolding step
     step-past s zero h = refl
     step-past s (suc l) h = simp (ne-eqb (suc l) 0 (nonzero l), lt-ltb last s h, step)
 
-    step-last : (s l : ℕ) → s ≡ last → step visit last (at s (suc l)) ≡ record { answer = visited (visit s); walk = at s 0 }
+    pub step-last : (s l : ℕ) → s ≡ last → step visit last (at s (suc l)) ≡ record { answer = visited (visit s); walk = at s 0 }
     unfolding step
     step-last s l e = simp (ne-eqb (suc l) 0 (nonzero l), le-ltb last s (omega arith), eq-eqb s last e, step)
 
-    step-more : (s l : ℕ) → s < last → step visit last (at s (suc l)) ≡ record { answer = visited (visit s); walk = at (suc s) l }
+    pub step-more : (s l : ℕ) → s < last → step visit last (at s (suc l)) ≡ record { answer = visited (visit s); walk = at (suc s) l }
     unfolding step
     step-more s l h =
         let other : s ≢ last = omega arith in

@@ -1,7 +1,7 @@
 -- Ranges of indexes, and the visits of a range and of a block as lists.
 use mathlib.Core.Bool.{Bool, true, false, _&&_}
 use mathlib.Core.List.{List, [], _∷_, map}
-use Prim.Native.Nat.{ℕ, zero, suc, _-_, _*_, _^_}
+use Prim.Native.Nat.{ℕ, zero, suc, _+_, _-_, _*_, _^_}
 use lib.Dec.{eqb}
 use Rattle.net.specs.Sequence.{Sequence, top}
 
@@ -27,9 +27,13 @@ abbrev pub run : Sequence → ℕ → ℕ → List Visit
 run S m k = visits S (k * S .b ^ m) (S .b ^ m)
 
 -- how many elements of a list pass a test
+unfoldable pub one : Bool → ℕ
+one true = 1
+one false = 0
+
 unfoldable pub count : {A : Type 0} → (A → Bool) → List A → ℕ
 count test [] = 0
-count test (a ∷ l) = elim (test a) [ true ↦ suc (count test l) | false ↦ count test l ]
+count test (a ∷ l) = one (test a) + count test l
 
 -- how many of the visits lie in column c and row r of the shape (m, a)
 abbrev pub hits : Sequence → ℕ → ℕ → ℕ → ℕ → List Visit → ℕ

@@ -12,6 +12,10 @@ pub record Sequence : Type 0 where
   pub x : ℕ → ℕ
   pub y : ℕ → ℕ
 
+abbrev pub point : Sequence → ℕ → ℕ × ℕ
+point S i = (S .x i, S .y i)
+
+-- the coordinates have R digits
 pub record Fits (S : Sequence) : Type 0 where
   pub x : (i : ℕ) → S .x i < S .b ^ S .R
   pub y : (i : ℕ) → S .y i < S .b ^ S .R
