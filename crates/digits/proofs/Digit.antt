@@ -78,6 +78,9 @@ module _ {b : ℕ} (big : 1 < b) where
   pub div-lt : (j k n : ℕ) → n < b ^ (j + k) → n / b ^ k < b ^ j
   div-lt j k n h = div-lt-iff-lt-mul (pow-pos k) .1 (rw (← pow-add b j k) h)
 
+  pub join-lt : (j k q r : ℕ) → q < b ^ j → r < b ^ k → q * b ^ k + r < b ^ (j + k)
+  join-lt j k q r hq hr = rw (pow-add b j k) (digits-lt hq hr)
+
   pub lt-of-div : (k n : ℕ) → n / b ^ k ≡ 0 → n < b ^ k
   lt-of-div k n e = let l = div-lt-iff-lt-mul {x = n} {y = 1} (pow-pos k) .0 (omega arith) in omega arith
 
