@@ -1,9 +1,8 @@
 -- Ranges of indexes, and the visits of a range and of a block as lists.
-use mathlib.Core.Bool.{Bool, true, false, _&&_}
+use mathlib.Core.Bool.{Bool, true, false}
 use mathlib.Core.List.{List, [], _∷_, map}
-use Prim.Native.Nat.{ℕ, zero, suc, _+_, _-_, _*_, _^_}
-use lib.Dec.{eqb}
-use Rattle.net.specs.Sequence.{Sequence, top}
+use Prim.Native.Nat.{ℕ, zero, suc, _+_, _*_, _^_}
+use Rattle.net.specs.Sequence.{Sequence, inside}
 
 -- the n numbers from s on
 unfoldable pub range : ℕ → ℕ → List ℕ
@@ -27,14 +26,14 @@ abbrev pub run : Sequence → ℕ → ℕ → List Visit
 run S m k = visits S (k * S .b ^ m) (S .b ^ m)
 
 -- how many elements of a list pass a test
-unfoldable pub one : Bool → ℕ
-one true = 1
-one false = 0
+unfoldable pub indicator : Bool → ℕ
+indicator true = 1
+indicator false = 0
 
 unfoldable pub count : {A : Type 0} → (A → Bool) → List A → ℕ
 count test [] = 0
-count test (a ∷ l) = one (test a) + count test l
+count test (a ∷ l) = indicator (test a) + count test l
 
 -- how many of the visits lie in column c and row r of the shape (m, a)
 abbrev pub hits : Sequence → ℕ → ℕ → ℕ → ℕ → List Visit → ℕ
-hits S m a c r = count (λ v. eqb (top (S .b) (S .R) a (v .x)) c && eqb (top (S .b) (S .R) (m - a) (v .y)) r)
+hits S m a c r = count (λ v. inside S m a c r (v .x) (v .y))

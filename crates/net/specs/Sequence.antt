@@ -1,7 +1,9 @@
 -- Sequences of points, blocks of their indexes and elementary intervals, over any two coordinate functions.
 use mathlib.Core.Path.{_≡_}
 use mathlib.Core.Logic.{_≢_}
+use mathlib.Core.Bool.{Bool, _&&_}
 use Prim.Native.Nat.{ℕ, _+_, _-_, _*_, _/_, _^_, _≤_, _<_}
+use lib.Dec.{eqb}
 use Rattle.digits.specs.Digits.{minus}
 use Rattle.linear.specs.Unique.{Only}
 
@@ -38,14 +40,21 @@ pub record Block (b m k i : ℕ) : Type 0 where
   pub below : i < (k + 1) * b ^ m
 
 -- index i is in block k, and its point in column c and row r of the shape (m, a)
-pub record Visits (S : Sequence) (m a k c r i : ℕ) : Type 0 where
+pub record VisitIn (S : Sequence) (m a k c r i : ℕ) : Type 0 where
   pub in-block : Block (S .b) m k i
   pub in-column : column S a i ≡ c
   pub in-row : row S (m - a) i ≡ r
 
 -- block k visits each interval of the shape exactly once, that of column c and row r at the index `find c r`
 abbrev pub Finds : Sequence → ℕ → ℕ → ℕ → (ℕ → ℕ → ℕ) → Type 0
-Finds S m a k find = (c r : ℕ) → c < S .b ^ a → r < S .b ^ (m - a) → Only (Visits S m a k c r) (find c r)
+Finds S m a k find = (c r : ℕ) → c < S .b ^ a → r < S .b ^ (m - a) → Only (VisitIn S m a k c r) (find c r)
+
+-- the same as tests, of a point and of an index
+abbrev pub inside : Sequence → ℕ → ℕ → ℕ → ℕ → ℕ → ℕ → Bool
+inside S m a c r x y = eqb (top (S .b) (S .R) a x) c && eqb (top (S .b) (S .R) (m - a) y) r
+
+abbrev pub lies : Sequence → ℕ → ℕ → ℕ → ℕ → ℕ → Bool
+lies S m a c r i = inside S m a c r (S .x i) (S .y i)
 
 -- column c and row r less those of the first index of block k, digit by digit (in base two: exclusive or)
 abbrev pub column-less : Sequence → ℕ → ℕ → ℕ → ℕ → ℕ
