@@ -1,4 +1,7 @@
--- The determinant vanishes where two columns are equal. Assumes nothing.
+-- The determinant vanishes where two columns are equal.
+-- The idea: of two equal neighbours k and k + 1 the terms of the expansion cancel, and every other minor has two equal neighbours
+-- again (`adjacent`). Equal columns that are further apart become neighbours by exchanges of neighbours, each of which changes the
+-- sign only (`swap-where`, `apart`). Assumes nothing.
 use mathlib.Core.Path.{_≡_, refl, sym, ap, ap₂, _∙_, subst}
 use mathlib.Core.Logic.{_⊎_, inl, inr, _≢_}
 use Prim.Native.Nat.{ℕ, zero, suc, pred, _+_, _-_, _*_, _^_, _≤_, _<_, _∣_}

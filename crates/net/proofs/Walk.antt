@@ -1,16 +1,18 @@
 -- The steps of a walk as one list, for any visits and any last index. Assumes nothing.
 use mathlib.Core.Path.{_≡_, refl, sym, ap, ap₂, _∙_}
 use mathlib.Core.Logic.{_⊎_, inl, inr, _≢_}
-use mathlib.Core.List.{List, [], _∷_, _++_, map}
-use Prim.Native.Nat.{ℕ, zero, suc, _+_, _-_, _≤_, _<_, min}
+use mathlib.Core.List.{List, [], _∷_, _++_, map, map-map, append-nil}
+use Prim.Native.Nat.{ℕ, zero, suc, _+_, _-_, _*_, _^_, _≤_, _<_, min}
 use native.Mathlib.Numerals.{add-one}
 use native.Mathlib.Omega.{arith}
 use borrow.Author.Tests.{lt-ltb, le-ltb, eq-eqb, ne-eqb}
 use lib.ListN.{replicate}
 use Rattle.linear.proofs.Cases.{lt-or-ge}
-use Rattle.net.specs.Run.{range}
+use Rattle.net.specs.Sequence.{Sequence}
+use Rattle.net.specs.Run.{range, visit}
 use Rattle.net.specs.Walk.{Walk, Answer, visited, ended, Stepped, step, answers, after, given}
-use Rattle.net.specs.Theorem.{Walked, WalkedByHand}
+use Rattle.net.specs.Theorem.{Walked, WalkedByHand, WalkedRun}
+use Rattle.net.proofs.Run.{take-each}
 
 abbrev at : ℕ → ℕ → Walk
 at s l = record { next = s; left = l }
@@ -140,3 +142,18 @@ module _ {A : Type 0} (visit : ℕ → A) where
         let all : count ≡ min count (suc last - start) = omega arith in
         let end = last-walk n start count h f in
         record { list = list n start count count all; next = ap (λ (w : Walk). w .next) end; left = ap (λ (w : Walk). w .left) end }
+
+-- ---- a walk over a run
+
+pub walked-run : (S : Sequence) (m k last count n : ℕ) → k * S .b ^ m ≤ last → k * S .b ^ m + count ≤ suc last → n ≤ count → n ≤ S .b ^ m
+    → WalkedRun S m k last count n
+walked-run S m k last count n h f l u =
+    let first = k * S .b ^ m in
+    let all : min n count ≡ n = omega arith in
+    let no-end : n - count ≡ 0 = omega arith in
+    record {
+      list = walked (visit S) last first count n h f .list
+          ∙ ap₂ (λ (v e : ℕ). map (λ i. visited (visit S i)) (range first v) ++ replicate e ended) all no-end
+          ∙ append-nil (map (λ i. visited (visit S i)) (range first n))
+          ∙ sym (ap (map visited) (take-each (visit S) first (S .b ^ m) n u) ∙ map-map visited (visit S) (range first n));
+    }
