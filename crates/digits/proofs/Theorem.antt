@@ -1,18 +1,18 @@
--- The statements of specs/Theorem, a term each. Assumes nothing.
+-- The one term for specs/Theorem. Assumes nothing.
 use Prim.Native.Nat.{ℕ, _<_}
-use Rattle.digits.specs.Theorem.{Determined, DigitByDigit, Group, Parts, ExclusiveOr, Reversal}
+use Rattle.digits.specs.Theorem.{Determined, DigitByDigit, Group, Parts, ExclusiveOr, Reversal, Theorems}
 use Rattle.digits.proofs.Digit as D
 use Rattle.digits.proofs.Arithmetic as A
 use Rattle.digits.proofs.Two as T
 use Rattle.digits.proofs.Reversed as R
 
-pub determined : {b : ℕ} → 1 < b → Determined b
+determined : {b : ℕ} → 1 < b → Determined b
 determined big = record { by-digits = D.ext big; by-lowest = D.ext-below big; number-digit = D.digit-number big; number-below = D.number-lt big }
 
-pub digit-by-digit : {b : ℕ} → 1 < b → DigitByDigit b
+digit-by-digit : {b : ℕ} → 1 < b → DigitByDigit b
 digit-by-digit big = record { plus-digit = A.digit-plus big; minus-digit = A.digit-minus big; times-digit = A.digit-times big }
 
-pub group : {b : ℕ} → 1 < b → Group b
+group : {b : ℕ} → 1 < b → Group b
 group big = record {
   associative = A.plus-assoc big;
   commutative = A.plus-comm big;
@@ -21,7 +21,7 @@ group big = record {
   added-taken = A.plus-minus big;
 }
 
-pub parts : {b : ℕ} → 1 < b → Parts b
+parts : {b : ℕ} → 1 < b → Parts b
 parts big = record {
   plus-quotient = A.plus-div big;
   plus-remainder = A.plus-mod big;
@@ -31,10 +31,10 @@ parts big = record {
   minus-below = A.minus-lt big;
 }
 
-pub exclusive-or : ExclusiveOr
+exclusive-or : ExclusiveOr
 exclusive-or = record { plus-is = T.plus-two; minus-is = T.minus-two }
 
-pub reversal : {b : ℕ} → 1 < b → Reversal b
+reversal : {b : ℕ} → 1 < b → Reversal b
 reversal big = record {
   places = R.digit-reversed big;
   below = R.reversed-lt big;
@@ -45,4 +45,14 @@ reversal big = record {
   shorter = R.reversed-short big;
   remainder = R.reversed-mod big;
   additive = R.reversed-plus big;
+}
+
+pub theorems : Theorems
+theorems = record {
+  determined = determined;
+  digit-by-digit = digit-by-digit;
+  group = group;
+  parts = parts;
+  exclusive-or = exclusive-or;
+  reversal = reversal;
 }

@@ -10,12 +10,12 @@ unfoldable pub number : ℕ → ℕ → (ℕ → ℕ) → ℕ
 number b zero d = 0
 number b (suc w) d = number b w (λ k. d (suc k)) * b + d 0 % b
 
--- the n lowest digits of i in the opposite order (the radical inverse of i, times b ^ n)
+-- the n lowest digits of i in the opposite order (for i of n digits: its radical inverse times b ^ n)
 unfoldable pub reversed : ℕ → ℕ → ℕ → ℕ
 reversed b n i = number b n (λ k. digit b (n - suc k) i)
 
--- The number whose digits are f of the digits of m and of n, modulo b. The fuel w is enough where it is not below m and n; the
--- recursion stops as soon as both are 0, so it computes.
+-- The number whose digits are f of the digits of m and of n, modulo b, where f 0 0 is 0 modulo b. The fuel w is enough where it is
+-- not below m and n; the recursion stops as soon as both are 0, so it computes.
 unfoldable pub digitwise : ℕ → (ℕ → ℕ → ℕ) → ℕ → ℕ → ℕ → ℕ
 digitwise b f zero m n = 0
 digitwise b f (suc w) m n = elim (m + n) [ zero ↦ 0 | suc s ↦ digitwise b f w (m / b) (n / b) * b + f (m % b) (n % b) % b ]

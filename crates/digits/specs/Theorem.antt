@@ -1,4 +1,5 @@
--- What is proved of digits (proofs/Theorem), in every base b above 1 and for all numbers; `ExclusiveOr` is about base two.
+-- What is proved of digits, for all numbers. First the statements, as records; at the end `Theorems`, the whole list with the assumption
+-- of each, of which proofs/Theorem gives one term.
 use mathlib.Core.Path.{_≡_}
 use Prim.Native.Nat.{ℕ, suc, _+_, _-_, _*_, _/_, _%_, _^_, _≤_, _<_}
 use lib.Bits.{bitXor}
@@ -51,3 +52,11 @@ pub record Reversal (b : ℕ) : Type 0 where
   pub shorter : (m n p : ℕ) → p < b ^ m → reversed b (m + n) p / b ^ n ≡ reversed b m p
   pub remainder : (m n i : ℕ) → n ≤ m → reversed b n (i % b ^ m) ≡ reversed b n i
   pub additive : (n i j : ℕ) → reversed b n (plus b i j) ≡ plus b (reversed b n i) (reversed b n j)
+
+pub record Theorems : Type 0 where
+  pub determined : {b : ℕ} → 1 < b → Determined b
+  pub digit-by-digit : {b : ℕ} → 1 < b → DigitByDigit b
+  pub group : {b : ℕ} → 1 < b → Group b
+  pub parts : {b : ℕ} → 1 < b → Parts b
+  pub exclusive-or : ExclusiveOr
+  pub reversal : {b : ℕ} → 1 < b → Reversal b

@@ -1,11 +1,14 @@
--- What is proved of determinants modulo a prime p (proofs/Theorem), and the pigeonhole principle.
+-- What is proved of matrices modulo a prime p, and the pigeonhole principle. First the statements, as records; at the end `Theorems`,
+-- the whole list with the assumption of each, of which proofs/Theorem gives one term.
 use mathlib.Core.Path.{_≡_}
 use mathlib.Core.Logic.{_≢_, _↔_}
 use Prim.Native.Nat.{ℕ, _+_, _*_, _%_, _<_}
 use Rattle.linear.specs.Unique.{One}
+use Rattle.linear.specs.Prime.{Prime}
 use Rattle.linear.specs.Matrix.{Matrix, det, put}
 use Rattle.linear.specs.Solution.{Kernel, Trivial, Solves}
 
+-- the determinant modulo p as a function of the columns, the kernel, and the systems that it decides
 pub record Determinant (p : ℕ) : Type 0 where
   -- linear in each column, 0 where two columns are equal, of the other sign where two columns change places
   pub linear : (n k a b : ℕ) (A : Matrix) (x y : ℕ → ℕ) → k < n
@@ -25,3 +28,9 @@ pub record Determinant (p : ℕ) : Type 0 where
 pub record Pigeonhole (N : ℕ) : Type 0 where
   pub onto : (f : ℕ → ℕ) → ((i : ℕ) → i < N → f i < N) → ((i j : ℕ) → i < N → j < N → f i ≡ f j → i ≡ j)
       → (y : ℕ) → y < N → (i : ℕ) × (i < N) × (f i ≡ y)
+
+pub record Theorems : Type 0 where
+  pub two : Prime 2
+  pub three : Prime 3
+  pub determinant : {p : ℕ} → Prime p → Determinant p
+  pub pigeonhole : (N : ℕ) → Pigeonhole N

@@ -7,21 +7,22 @@ use native.Mathlib.Omega.{arith}
 use Rattle.digits.proofs.Digit.{pow-pos}
 use Rattle.linear.specs.Prime.{Prime}
 use Rattle.net.specs.Generators.{Generators}
-use Rattle.net.specs.Sequence.{Sequence, Finds, Apart}
+use Rattle.net.specs.Sequence.{Sequence, Finds, Apart, Least}
 use Rattle.net.specs.Finish.{plain, shifted}
 use Rattle.net.specs.Shape.{Shape}
-use Rattle.net.specs.Elimination.{serial, interval, Choice, Entry, solve, Outcome, kernel, basis, eliminate-shape, basis-index}
+use Rattle.net.specs.Elimination.{serial, interval, Choice, BasisEntry, solve, Outcome, kernel, basis, eliminate-shape, basis-index}
 use Rattle.net.specs.Theorem.{Solved, Eliminated}
 use Rattle.net.proofs.Finish.{unshifted}
 use Rattle.net.proofs.Interval.{interval-additive, interval-lt, interval-of-share, share-of-interval, interval-zero}
 use Rattle.net.proofs.Shape.{apart-iff}
 use Rattle.net.proofs.Net.{stratified}
+use Rattle.net.proofs.Check.{crowded-of-least, zero-of-crowded}
 use Rattle.net.proofs.Elimination.{Sound, eliminate-sound}
 
 module _ {G : Generators} {m a : ℕ} (shape : Shape G m a) (prime : Prime (G .b)) where
   open Generators G using (b, R)
 
-  module _ (fs : List Entry) (back : (i : ℕ) → i < b ^ m → solve b (interval (plain G) m a) fs (interval (plain G) m a i) ≡ i) where
+  module _ (fs : List BasisEntry) (back : (i : ℕ) → i < b ^ m → solve b (interval (plain G) m a) fs (interval (plain G) m a i) ≡ i) where
     apart : Apart (plain G) m a
     apart i j hi hj s = sym (back i hi) ∙ ap (solve b (interval (plain G) m a) fs) (interval-of-share shape i j s) ∙ back j hj
 
@@ -33,7 +34,7 @@ module _ {G : Generators} {m a : ℕ} (shape : Shape G m a) (prime : Prime (G .b
         let there = related .plain-visit .holds in
         let below : p < b ^ m = let h = there .in-block .below in omega arith in
         let same = ap (solve b (interval (plain G) m a) fs) (sym (ap₂ (serial b (m - a)) (there .in-column) (there .in-row))) ∙ back p below in
-        rw same (related .visit)
+        rw same (related .block-visit)
 
     solved : Solved G m a fs
     solved = record {
@@ -55,10 +56,12 @@ module _ {G : Generators} {m a : ℕ} (shape : Shape G m a) (prime : Prime (G .b
       origin = interval-zero shape
 
       read : (o : Outcome) → Sound b (interval (plain G) m a) m o → Eliminated G m a o
-      read (kernel j) (below, s) = record {
-        positive = s .positive;
-        below = below;
-        shares = share-of-interval shape j 0 (s .vanishes ∙ sym origin);
-        least = λ i h q. s .least i h (interval-of-share shape i 0 q ∙ origin);
-      }
+      read (kernel j) (below, s) =
+          let least : Least (plain G) m a j = record {
+            positive = s .positive;
+            below = below;
+            shares = share-of-interval shape j 0 (s .vanishes ∙ sym origin);
+            least = λ i h q. s .least i h (interval-of-share shape i 0 q ∙ origin);
+          } in
+          record { zero = zero-of-crowded shape prime (crowded-of-least (plain G) m a j least); least = least }
       read (basis fs) back = solved fs back

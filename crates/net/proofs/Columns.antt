@@ -45,7 +45,7 @@ iterate-each f g h (suc n) s x e =
 module _ {b : ℕ} (big : 1 < b) (R : ℕ) where
   -- ---- the identity
 
-  identity-high : (c : ℕ) → R ≤ c → identity-column b R c ≡ 0
+  pub identity-high : (c : ℕ) → R ≤ c → identity-column b R c ≡ 0
   unfolding identity-column
   identity-high c h = rw (le-ltb c R h, identity-column) refl
 

@@ -11,22 +11,22 @@ use Rattle.digits.proofs.Remainder.{mul-mod}
 use Rattle.digits.proofs.Digit.{digit-lt, lt-of-div}
 use Rattle.digits.proofs.Arithmetic.{digit-minus, digit-times, digit-minus-zero, digit-times-zero, minus-div, times-div, times-of-zero}
 use Rattle.digits.proofs.Arithmetic.{minus-of-zero, minus-zero, minus-minus}
-use Rattle.net.specs.Elimination.{Additive, Entry, reduce, solve}
+use Rattle.net.specs.Elimination.{Additive, BasisEntry, reduce, solve}
 use Rattle.net.proofs.Additive.{of-minus, of-times}
 use Rattle.net.proofs.Echelon.{Clear, Echelon}
 
 -- the pivots of a basis
-abbrev pub Pivot : List Entry → ℕ → Type 0
+abbrev pub Pivot : List BasisEntry → ℕ → Type 0
 Pivot [] q = ⊥
 Pivot (f ∷ fs) q = Pivot fs q ⊎ (q ≡ f .pivot)
 
 -- an entry over those before it; its index is below b ^ c
-pub record Inserted (b : ℕ) (L : ℕ → ℕ) (c : ℕ) (f : Entry) (fs : List Entry) : Type 0 where
+pub record Inserted (b : ℕ) (L : ℕ → ℕ) (c : ℕ) (f : BasisEntry) (fs : List BasisEntry) : Type 0 where
   pub low : f .index < b ^ c
   pub inverse : digit b (f .pivot) (L (f .index)) * f .inverse % b ≡ 1
   pub clear : Clear b (Pivot fs) (L (f .index))
 
-abbrev pub Basis : ℕ → (ℕ → ℕ) → ℕ → List Entry → Type 0
+abbrev pub Basis : ℕ → (ℕ → ℕ) → ℕ → List BasisEntry → Type 0
 Basis b L c [] = Unit
 Basis b L c (f ∷ fs) = Inserted b L c f fs × Basis b L c fs
 
@@ -34,7 +34,7 @@ module _ {b : ℕ} {L : ℕ → ℕ} (A : Additive b L) where
   big : 1 < b
   big = A .base
 
-  pub basis-suc : (c : ℕ) (fs : List Entry) → Basis b L c fs → Basis b L (suc c) fs
+  pub basis-suc : (c : ℕ) (fs : List BasisEntry) → Basis b L c fs → Basis b L (suc c) fs
   basis-suc c [] B = tt
   basis-suc c (f ∷ fs) B =
       let low : f .index < b ^ suc c = lt-of-lt-of-le (B .0 .low) (pow-le-pow-right (omega arith) (omega arith)) in
@@ -52,7 +52,7 @@ module _ {b : ℕ} {L : ℕ → ℕ} (A : Additive b L) where
       ap (λ (z : ℕ). z % b) (omega arith) ∙ sym (mul-mod b x (y * v)) ∙ ap (λ (z : ℕ). x * z % b) e ∙ rw mul-one (mod-eq-of-lt h) in
       ap (λ (z : ℕ). (x + (b - z)) % b) one ∙ ap (λ (z : ℕ). z % b) (omega arith) ∙ mod-self b
 
-  pub reduce-clear : (c : ℕ) (fs : List Entry) → Basis b L c fs → (e : ℕ) → Clear b (Pivot fs) (L (reduce b L fs e))
+  pub reduce-clear : (c : ℕ) (fs : List BasisEntry) → Basis b L c fs → (e : ℕ) → Clear b (Pivot fs) (L (reduce b L fs e))
   unfolding reduce
   reduce-clear c [] B e q p = absurd p
   reduce-clear c (f ∷ fs) B e q p = ap (digit b q) (image r s (f .index)) ∙ go p (λ old. reduce-clear c fs (B .1) e q old)
@@ -71,7 +71,7 @@ module _ {b : ℕ} {L : ℕ → ℕ} (A : Additive b L) where
           ∙ rw at (cancels (digit b (f .pivot) (L r)) (digit b (f .pivot) (L (f .index))) (f .inverse) (digit-lt big (f .pivot) (L r))
           (B .0 .inverse))
 
-  pub reduce-top : (c : ℕ) (fs : List Entry) → Basis b L c fs → (e : ℕ) → reduce b L fs e / b ^ c ≡ e / b ^ c
+  pub reduce-top : (c : ℕ) (fs : List BasisEntry) → Basis b L c fs → (e : ℕ) → reduce b L fs e / b ^ c ≡ e / b ^ c
   unfolding reduce
   reduce-top c [] B e = refl
   reduce-top c (f ∷ fs) B e =
@@ -86,7 +86,7 @@ module _ {b : ℕ} {L : ℕ → ℕ} (A : Additive b L) where
       s = digit b (f .pivot) (L r) * f .inverse
 
   -- what is left of e is e less the solution for its image
-  pub solve-rest : (fs : List Entry) (e : ℕ) → minus b e (solve b L fs (L e)) ≡ reduce b L fs e
+  pub solve-rest : (fs : List BasisEntry) (e : ℕ) → minus b e (solve b L fs (L e)) ≡ reduce b L fs e
   unfolding reduce solve
   solve-rest [] e = minus-of-zero big e
   solve-rest (f ∷ fs) e =
@@ -96,7 +96,7 @@ module _ {b : ℕ} {L : ℕ → ℕ} (A : Additive b L) where
       ∙ ap₂ (λ (x y : ℕ). minus b x (times b (digit b (f .pivot) y * f .inverse) (f .index))) ih (sym (of-minus A e p) ∙ ap L ih)
 
   -- so below b ^ c nothing is left
-  pub solve-back : (c : ℕ) (fs : List Entry) → Basis b L c fs → Echelon b L c (Pivot fs) → (i : ℕ) → i < b ^ c → solve b L fs (L i) ≡ i
+  pub solve-back : (c : ℕ) (fs : List BasisEntry) → Basis b L c fs → Echelon b L c (Pivot fs) → (i : ℕ) → i < b ^ c → solve b L fs (L i) ≡ i
   solve-back c fs B E i h =
       let low = lt-of-div big c (reduce b L fs i) (reduce-top c fs B i ∙ div-eq-of-lt h) in
       sym (minus-zero big i (solve b L fs (L i)) (solve-rest fs i ∙ E .only-zero (reduce b L fs i) low (reduce-clear c fs B i)))

@@ -1,9 +1,9 @@
 -- Ranges of indexes and lists made of them: parts, lengths, elements, and how many pass a test. Assumes nothing.
-use mathlib.Core.Path.{_≡_, refl, ap, ap₂, _∙_}
+use mathlib.Core.Path.{_≡_, refl, sym, ap, ap₂, _∙_}
 use mathlib.Core.Logic.{_⊎_, inl, inr}
 use mathlib.Core.Bool.{Bool, true, false}
 use mathlib.Core.List.{List, [], _∷_, _++_, map}
-use Prim.Native.Nat.{ℕ, zero, suc, _+_, _-_, _*_, _^_, _≤_, _<_}
+use Prim.Native.Nat.{ℕ, zero, suc, _+_, _-_, _*_, _^_, _≤_, _<_, min}
 use native.Mathlib.Nat.{suc-add}
 use native.Mathlib.Omega.{arith}
 use lib.ListN.{length, getD, take, drop}
@@ -32,20 +32,22 @@ module _ {A : Type 0} (f : ℕ → A) where
   getD-each s (suc n) zero d h = ap f (omega arith)
   getD-each s (suc n) (suc i) d h = getD-each (suc s) n i d (omega arith) ∙ ap f (omega arith)
 
-  pub take-each : (s n j : ℕ) → j ≤ n → take j (map f (range s n)) ≡ map f (range s j)
+  pub take-each : (s n j : ℕ) → take j (map f (range s n)) ≡ map f (range s (min j n))
   unfolding range
-  take-each s n zero h = refl
-  take-each s zero (suc j) h = absurd (omega arith)
-  take-each s (suc n) (suc j) h = ap (λ (l : List A). f s ∷ l) (take-each (suc s) n j (omega arith))
+  take-each s n zero = let e : 0 ≡ min 0 n = omega arith in ap (λ (c : ℕ). map f (range s c)) e
+  take-each s zero (suc j) = let e : 0 ≡ min (suc j) 0 = omega arith in ap (λ (c : ℕ). map f (range s c)) e
+  take-each s (suc n) (suc j) =
+      let e : suc (min j n) ≡ min (suc j) (suc n) = omega arith in
+      ap (λ (l : List A). f s ∷ l) (take-each (suc s) n j) ∙ ap (λ (c : ℕ). map f (range s c)) e
 
-  pub drop-each : (s n p : ℕ) → p ≤ n → drop p (map f (range s n)) ≡ map f (range (s + p) (n - p))
+  pub drop-each : (s n p : ℕ) → drop p (map f (range s n)) ≡ map f (range (s + p) (n - p))
   unfolding range
-  drop-each s n zero h = let e : s ≡ s + 0 = omega arith in let k : n ≡ n - 0 = omega arith in ap₂ (λ (t c : ℕ). map f (range t c)) e k
-  drop-each s zero (suc p) h = absurd (omega arith)
-  drop-each s (suc n) (suc p) h =
+  drop-each s n zero = let e : s ≡ s + 0 = omega arith in let k : n ≡ n - 0 = omega arith in ap₂ (λ (t c : ℕ). map f (range t c)) e k
+  drop-each s zero (suc p) = let k : 0 ≡ 0 - suc p = omega arith in ap (λ (c : ℕ). map f (range (s + suc p) c)) k
+  drop-each s (suc n) (suc p) =
       let e : suc s + p ≡ s + suc p = omega arith in
       let k : n - p ≡ suc n - suc p = omega arith in
-      drop-each (suc s) n p (omega arith) ∙ ap₂ (λ (t c : ℕ). map f (range t c)) e k
+      drop-each (suc s) n p ∙ ap₂ (λ (t c : ℕ). map f (range t c)) e k
 
 -- ---- how many pass a test
 
@@ -102,7 +104,9 @@ runs S m k = record { one-hit = one-hit; part = part }
         let (p, q) = of-lies S m a c r j hit in
         one .only j (record { in-block = record { from = l; below = omega arith }; in-column = p; in-row = q }))
 
-    part : (p n : ℕ) → p + n ≤ S .b ^ m → take n (drop p (run S m k)) ≡ visits S (k * S .b ^ m + p) n
-    part p n h =
-        ap (take n) (drop-each (visit S) (k * S .b ^ m) (S .b ^ m) p (omega arith))
-        ∙ take-each (visit S) (k * S .b ^ m + p) (S .b ^ m - p) n (omega arith)
+    part : (p n : ℕ) → take (S .b ^ m - p) (visits S (k * S .b ^ m + p) n) ≡ take n (drop p (run S m k))
+    part p n =
+        let first = k * S .b ^ m in
+        let e : min (S .b ^ m - p) n ≡ min n (S .b ^ m - p) = omega arith in
+        take-each (visit S) (first + p) n (S .b ^ m - p) ∙ ap (λ (c : ℕ). visits S (first + p) c) e
+        ∙ sym (ap (take n) (drop-each (visit S) first (S .b ^ m) p) ∙ take-each (visit S) (first + p) (S .b ^ m - p) n)

@@ -7,7 +7,7 @@ use Prim.Native.Nat.{ℕ, suc, _-_, _/_, _%_, _≤_, _<_, _∣_}
 use native.Mathlib.Nat.{zero-add, mod-mod, zero-mod, mod-mod-of-dvd}
 use native.Mathlib.Omega.{arith}
 use borrow.Author.Tests.{lt-ltb, le-ltb}
-use lib.ListN.{getD}
+use lib.ListN.{getD, List·getD-eq-default}
 use Rattle.digits.specs.Digits.{digit, plus}
 use Rattle.linear.proofs.Cases.{lt-or-ge}
 use Rattle.linear.proofs.Modulo.{det-mod}
@@ -19,11 +19,11 @@ use Rattle.net.specs.Shape.{Shape, matrix, determinant}
 use Rattle.net.specs.Run.{range}
 use Rattle.net.specs.Standard.{binomial, identity-column, pascal-column, standard}
 use Rattle.net.specs.Theorem.{StandardMatrices}
-use Rattle.net.proofs.Run.{getD-each}
+use Rattle.net.proofs.Run.{length-each, getD-each}
 use Rattle.net.proofs.Shape.{alone-iff, apart-of-alone}
 use Rattle.net.proofs.Net.{stratified}
 use Rattle.net.proofs.Standard.{alone}
-use Rattle.net.proofs.Columns.{same, identity-low, identity-step, identity-entry, pascal-entry, pascal-step}
+use Rattle.net.proofs.Columns.{same, identity-high, identity-low, identity-step, identity-entry, pascal-entry, pascal-step}
 use Rattle.net.proofs.Columns.{standard-valid, standard-is, identity-product}
 
 -- column c of a matrix that is made over a range
@@ -68,7 +68,8 @@ nonzero {b} big R n long m a h l e =
 
 pub standard-matrices : {b : ℕ} → 1 < b → (R n : ℕ) → R ≤ n → StandardMatrices b R n
 standard-matrices {b} big R n long = record {
-  identity = λ c h k. column-at (identity-column b R) n c k ∙ identity-low big R c h;
+  identity = λ c h. column-at (identity-column b R) n c (omega arith) ∙ identity-low big R c h;
+  identity-beyond = λ c h. beyond c h (lt-or-ge c n);
   pascal = Y-entry big R n;
   identity-next = λ c h.
       column-at (identity-column b R) n (suc c) h ∙ identity-step big R c
@@ -81,3 +82,7 @@ standard-matrices {b} big R n long = record {
   stratified = λ m a h l. stratified (shape big R n h l) (apart-of-alone (shape big R n h l) (standard-alone big R n long m a h l));
   passes = record { nonzero = λ m a p h l. nonzero big R n long m a h l };
 }
+  where
+    beyond : (c : ℕ) → R ≤ c → (c < n) ⊎ (n ≤ c) → getD (standard b R n .X) c 0 ≡ 0
+    beyond c h (inl l) = column-at (identity-column b R) n c l ∙ identity-high big R c h
+    beyond c h (inr l) = List·getD-eq-default (standard b R n .X) 0 (rw (length-each (identity-column b R) 0 n) l)

@@ -1,18 +1,19 @@
 -- The steps of a walk as one list, for any visits and any last index. Assumes nothing.
 use mathlib.Core.Path.{_≡_, refl, sym, ap, ap₂, _∙_}
 use mathlib.Core.Logic.{_⊎_, inl, inr, _≢_}
-use mathlib.Core.List.{List, [], _∷_, _++_, map, map-map, append-nil}
+use mathlib.Core.List.{List, [], _∷_, _++_, map, map-map}
 use Prim.Native.Nat.{ℕ, zero, suc, _+_, _-_, _*_, _^_, _≤_, _<_, min}
 use native.Mathlib.Numerals.{add-one}
 use native.Mathlib.Omega.{arith}
 use borrow.Author.Tests.{lt-ltb, le-ltb, eq-eqb, ne-eqb}
-use lib.ListN.{replicate}
+use lib.ListN.{replicate, take}
+use lib.Seq.{take-at}
 use Rattle.linear.proofs.Cases.{lt-or-ge}
 use Rattle.net.specs.Sequence.{Sequence}
-use Rattle.net.specs.Run.{range, visit}
+use Rattle.net.specs.Run.{range, Visit, visit}
 use Rattle.net.specs.Walk.{Walk, Answer, visited, ended, Stepped, step, answers, after, given}
 use Rattle.net.specs.Theorem.{Walked, WalkedByHand, WalkedRun}
-use Rattle.net.proofs.Run.{take-each}
+use Rattle.net.proofs.Run.{length-each, take-each}
 
 abbrev at : ℕ → ℕ → Walk
 at s l = record { next = s; left = l }
@@ -145,15 +146,22 @@ module _ {A : Type 0} (visit : ℕ → A) where
 
 -- ---- a walk over a run
 
-pub walked-run : (S : Sequence) (m k last count n : ℕ) → k * S .b ^ m ≤ last → k * S .b ^ m + count ≤ suc last → n ≤ count → n ≤ S .b ^ m
-    → WalkedRun S m k last count n
-walked-run S m k last count n h f l u =
-    let first = k * S .b ^ m in
-    let all : min n count ≡ n = omega arith in
-    let no-end : n - count ≡ 0 = omega arith in
-    record {
-      list = walked (visit S) last first count n h f .list
-          ∙ ap₂ (λ (v e : ℕ). map (λ i. visited (visit S i)) (range first v) ++ replicate e ended) all no-end
-          ∙ append-nil (map (λ i. visited (visit S i)) (range first n))
-          ∙ sym (ap (map visited) (take-each (visit S) first (S .b ^ m) n u) ∙ map-map visited (visit S) (range first n));
-    }
+pub walked-run : (S : Sequence) (m k last count n : ℕ) → k * S .b ^ m ≤ last → k * S .b ^ m + count ≤ suc last → WalkedRun S m k last count n
+walked-run S m k last count n h f = record {
+  list = ap (λ (l : List (Answer Visit)). take size (take c l)) (walked (visit S) last first count n h f .list)
+      ∙ ap (take size) (take-at (map (λ i. visited (visit S i)) (range first c)) (replicate (n - count) ended) c (length-each _ first c))
+      ∙ take-each (λ i. visited (visit S i)) first c size ∙ ap (λ (e : ℕ). map (λ i. visited (visit S i)) (range first e)) turned
+      ∙ sym (ap (map visited) (take-each (visit S) first size c) ∙ map-map visited (visit S) (range first (min c size)));
+}
+  where
+    first : ℕ
+    first = k * S .b ^ m
+
+    size : ℕ
+    size = S .b ^ m
+
+    c : ℕ
+    c = min n count
+
+    turned : min size c ≡ min c size
+    turned = omega arith

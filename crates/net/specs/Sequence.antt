@@ -49,7 +49,7 @@ pub record VisitIn (S : Sequence) (m a k c r i : ℕ) : Type 0 where
 abbrev pub Finds : Sequence → ℕ → ℕ → ℕ → (ℕ → ℕ → ℕ) → Type 0
 Finds S m a k find = (c r : ℕ) → c < S .b ^ a → r < S .b ^ (m - a) → Only (VisitIn S m a k c r) (find c r)
 
--- the same as tests, of a point and of an index
+-- a point, and the point of index i, lies in column c and row r of the shape (m, a)
 abbrev pub inside : Sequence → ℕ → ℕ → ℕ → ℕ → ℕ → ℕ → Bool
 inside S m a c r x y = eqb (top (S .b) (S .R) a x) c && eqb (top (S .b) (S .R) (m - a) y) r
 

@@ -24,27 +24,27 @@ pub record Stepped (A : Type 0) : Type 0 where
 -- With none left, or past the last index, a step has ended and changes nothing. At the last index it gives that visit and leaves
 -- none left and the index unmoved. Else it gives the next visit, adds one to the index and takes one from the visits left.
 unfoldable pub step : {A : Type 0} → (ℕ → A) → ℕ → Walk → Stepped A
-step visit last w =
+step visit-of last w =
     elim (eqb (w .left) 0) [
       | true ↦ record { answer = ended; walk = w }
       | false ↦ elim (ltb last (w .next)) [
         | true ↦ record { answer = ended; walk = w }
         | false ↦ elim (eqb (w .next) last) [
-          | true ↦ record { answer = visited (visit (w .next)); walk = record { next = w .next; left = 0 } }
-          | false ↦ record { answer = visited (visit (w .next)); walk = record { next = w .next + 1; left = w .left - 1 } }
+          | true ↦ record { answer = visited (visit-of (w .next)); walk = record { next = w .next; left = 0 } }
+          | false ↦ record { answer = visited (visit-of (w .next)); walk = record { next = w .next + 1; left = w .left - 1 } }
         ]
       ]
     ]
 
 -- the answers of n steps, each on the walk that the one before it handed back; and the walk after them
 unfoldable pub answers : {A : Type 0} → (ℕ → A) → ℕ → ℕ → Walk → List (Answer A)
-answers visit last zero w = []
-answers visit last (suc n) w = step visit last w .answer ∷ answers visit last n (step visit last w .walk)
+answers visit-of last zero w = []
+answers visit-of last (suc n) w = step visit-of last w .answer ∷ answers visit-of last n (step visit-of last w .walk)
 
 unfoldable pub after : {A : Type 0} → (ℕ → A) → ℕ → ℕ → Walk → Walk
-after visit last zero w = w
-after visit last (suc n) w = after visit last n (step visit last w .walk)
+after visit-of last zero w = w
+after visit-of last (suc n) w = after visit-of last n (step visit-of last w .walk)
 
 -- the visits of c indexes from s on, as far as n steps go, and then the end
 abbrev pub given : {A : Type 0} → (ℕ → A) → ℕ → ℕ → ℕ → List (Answer A)
-given visit n s c = map (λ i. visited (visit i)) (range s (min n c)) ++ replicate (n - c) ended
+given visit-of n s c = map (λ i. visited (visit-of i)) (range s (min n c)) ++ replicate (n - c) ended
