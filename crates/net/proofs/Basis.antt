@@ -11,7 +11,7 @@ use Rattle.net.specs.Sequence.{Sequence, Finds, Apart, Least}
 use Rattle.net.specs.Finish.{plain, shifted}
 use Rattle.net.specs.Shape.{Shape}
 use Rattle.net.specs.Elimination.{serial, interval, Choice, BasisEntry, solve, Outcome, kernel, basis, eliminate-shape, basis-index}
-use Rattle.net.specs.Theorem.{Solved, Eliminated}
+use Rattle.net.specs.Answers.{Solved, Eliminated}
 use Rattle.net.proofs.Finish.{unshifted}
 use Rattle.net.proofs.Interval.{interval-additive, interval-lt, interval-of-share, share-of-interval, interval-zero}
 use Rattle.net.proofs.Shape.{apart-iff}

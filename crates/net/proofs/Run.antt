@@ -10,7 +10,7 @@ use lib.ListN.{length, getD, take, drop}
 use Rattle.linear.proofs.Cases.{eq-or-ne}
 use Rattle.net.specs.Sequence.{Sequence, Finds, lies}
 use Rattle.net.specs.Run.{range, visit, visits, run, indicator, count, hits}
-use Rattle.net.specs.Theorem.{Runs}
+use Rattle.net.specs.Steps.{Runs}
 use Rattle.net.proofs.Search.{clash, lies-of, of-lies}
 
 pub range-add : (s p q : ℕ) → range s (p + q) ≡ range s p ++ range (s + p) q

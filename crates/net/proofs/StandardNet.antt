@@ -18,7 +18,7 @@ use Rattle.net.specs.Finish.{plain}
 use Rattle.net.specs.Shape.{Shape, matrix, determinant}
 use Rattle.net.specs.Run.{range}
 use Rattle.net.specs.Standard.{binomial, identity-column, pascal-column, standard}
-use Rattle.net.specs.Theorem.{StandardMatrices}
+use Rattle.net.specs.Net.{StandardMatrices}
 use Rattle.net.proofs.Run.{length-each, getD-each}
 use Rattle.net.proofs.Shape.{alone-iff, apart-of-alone}
 use Rattle.net.proofs.Net.{stratified}

@@ -12,7 +12,7 @@ use Rattle.linear.proofs.Cases.{lt-or-ge}
 use Rattle.net.specs.Sequence.{Sequence}
 use Rattle.net.specs.Run.{range, Visit, visit}
 use Rattle.net.specs.Walk.{Walk, Answer, visited, ended, Stepped, step, answers, after, given}
-use Rattle.net.specs.Theorem.{Walked, WalkedByHand, WalkedRun}
+use Rattle.net.specs.Steps.{Walked, WalkedByHand, WalkedRun}
 use Rattle.net.proofs.Run.{length-each, take-each}
 
 abbrev at : ℕ → ℕ → Walk
