@@ -2,7 +2,6 @@
 -- Assumes nothing.
 use mathlib.Core.Path.{_≡_, refl, sym, ap, ap₂, _∙_}
 use mathlib.Core.Logic.{_⊎_, inl, inr, _≢_}
-use mathlib.Core.Bool.{true, false}
 use mathlib.Core.List.{List, _∷_, map}
 use Prim.Native.Nat.{ℕ, zero, suc, _+_, _-_, _*_, _/_, _%_, _^_, _≤_, _<_}
 use native.Mathlib.Nat.{mod-one, mod-mod, mod-lt, mod-eq-of-lt, div-self, div-eq-of-lt, mul-mod-left, pow-zero, pow-suc, zero-mod}
@@ -19,7 +18,7 @@ use Rattle.digits.proofs.Arithmetic.{digit-plus, plus-lt, plus-split, times-pow
 use Rattle.digits.proofs.Reversed.{reversed-lt, reversed-zero, reversed-more, reversed-suc, reversed-mod}
 use Rattle.linear.proofs.Cases.{lt-or-ge}
 use Rattle.net.specs.Generators.{Generators, Valid, product}
-use Rattle.net.specs.Run.{range}
+use Rattle.net.specs.Run.{range, indicator}
 use Rattle.net.specs.Standard.{binomial, identity-column, pascal-column, standard}
 use Rattle.net.proofs.Below.{below-map}
 use Rattle.net.proofs.Product.{product-lt}
@@ -27,13 +26,15 @@ use Rattle.net.proofs.Standard.{iterate, add-down, iterated, x₀-lt, h
 
 -- an entry of the identity
 abbrev pub same : ℕ → ℕ → ℕ
-same r c = elim (eqb r c) [ true ↦ 1 | false ↦ 0 ]
+same r c = indicator (eqb r c)
 
 same-eq : (r c : ℕ) → r ≡ c → same r c ≡ 1
-same-eq r c e = rw (eq-eqb r c e, same) refl
+unfolding indicator
+same-eq r c e = ap indicator (eq-eqb r c e)
 
 same-ne : (r c : ℕ) → r ≢ c → same r c ≡ 0
-same-ne r c ne = rw (ne-eqb r c ne, same) refl
+unfolding indicator
+same-ne r c ne = ap indicator (ne-eqb r c ne)
 
 -- a list over a range whose function steps by g
 iterate-each : (f g : ℕ → ℕ) → ((c : ℕ) → f (suc c) ≡ g (f c)) → (n s x : ℕ) → f s ≡ x → map f (range s n) ≡ iterate g n x
@@ -139,16 +140,16 @@ module _ {b : ℕ} (big : 1 < b) (R : ℕ) where
   unfolding binomial
   pascal-first =
       ext-below big R (pascal-column b R 0) (b ^ R / b) (pascal-lt 0) (x₀-lt big R) (λ k h.
-      pascal-digit 0 k h ∙ first k (R - suc k) refl h
+      pascal-digit 0 k h ∙ first (R - suc k)
       ∙ sym (ap (digit b k) (sym identity-first) ∙ ap (λ (x : ℕ). digit b x (identity-column b R 0)) (place k h)
       ∙ identity-entry (R - suc k) 0 (omega arith)))
     where
       place : (k : ℕ) → k < R → k ≡ R - suc (R - suc k)
       place k h = omega arith
 
-      first : (k r : ℕ) → R - suc k ≡ r → k < R → binomial 0 r % b ≡ same r 0
-      first k zero e h = mod-eq-of-lt big
-      first k (suc r) e h = zero-mod b ∙ sym (same-ne (suc r) 0 (omega arith))
+      first : (r : ℕ) → binomial 0 r % b ≡ same r 0
+      first zero = mod-eq-of-lt big ∙ sym (same-eq 0 0 refl)
+      first (suc r) = zero-mod b ∙ sym (same-ne (suc r) 0 (omega arith))
 
   identity-lt : (c : ℕ) → identity-column b R c < b ^ R
   identity-lt c =

@@ -21,98 +21,98 @@ at s l = record { next = s; left = l }
 nonzero : (l : ℕ) → suc l ≡ 0 → ⊥
 nonzero l e = omega arith
 
-module _ {A : Type 0} (visit : ℕ → A) where
+module _ {A : Type 0} (visit-of : ℕ → A) where
   -- ---- the list of n answers, one answer at a time
 
-  given-no-step : (s c : ℕ) → given visit 0 s c ≡ []
+  given-no-step : (s c : ℕ) → given visit-of 0 s c ≡ []
   unfolding range
   given-no-step s c =
       let none : min 0 c ≡ 0 = omega arith in
       let no-end : 0 - c ≡ 0 = omega arith in
-      ap₂ (λ (v e : ℕ). map (λ i. visited (visit i)) (range s v) ++ replicate e ended) none no-end
+      ap₂ (λ (v e : ℕ). map (λ i. visited (visit-of i)) (range s v) ++ replicate e ended) none no-end
 
-  given-end : (n s : ℕ) → given visit n s 0 ≡ replicate n ended
+  given-end : (n s : ℕ) → given visit-of n s 0 ≡ replicate n ended
   unfolding range
   given-end n s =
       let none : min n 0 ≡ 0 = omega arith in
       let all : n - 0 ≡ n = omega arith in
-      ap₂ (λ (v e : ℕ). map (λ i. visited (visit i)) (range s v) ++ replicate e ended) none all
+      ap₂ (λ (v e : ℕ). map (λ i. visited (visit-of i)) (range s v) ++ replicate e ended) none all
 
-  given-visit : (n s c : ℕ) → given visit (suc n) s (suc c) ≡ visited (visit s) ∷ given visit n (suc s) c
+  given-visit : (n s c : ℕ) → given visit-of (suc n) s (suc c) ≡ visited (visit-of s) ∷ given visit-of n (suc s) c
   unfolding range
   given-visit n s c =
       let more : min (suc n) (suc c) ≡ suc (min n c) = omega arith in
       let rest : suc n - suc c ≡ n - c = omega arith in
-      ap₂ (λ (v e : ℕ). map (λ i. visited (visit i)) (range s v) ++ replicate e ended) more rest
+      ap₂ (λ (v e : ℕ). map (λ i. visited (visit-of i)) (range s v) ++ replicate e ended) more rest
 
   module _ (last : ℕ) where
     -- ---- the cases of a step
 
-    pub step-none : (s : ℕ) → step visit last (at s 0) ≡ record { answer = ended; walk = at s 0 }
+    pub step-none : (s : ℕ) → step visit-of last (at s 0) ≡ record { answer = ended; walk = at s 0 }
     unfolding step
     step-none s = refl
 
-    pub step-past : (s l : ℕ) → last < s → step visit last (at s l) ≡ record { answer = ended; walk = at s l }
+    pub step-past : (s l : ℕ) → last < s → step visit-of last (at s l) ≡ record { answer = ended; walk = at s l }
     unfolding step
     step-past s zero h = refl
     step-past s (suc l) h = simp (ne-eqb (suc l) 0 (nonzero l), lt-ltb last s h, step)
 
-    pub step-last : (s l : ℕ) → s ≡ last → step visit last (at s (suc l)) ≡ record { answer = visited (visit s); walk = at s 0 }
+    pub step-last : (s l : ℕ) → s ≡ last → step visit-of last (at s (suc l)) ≡ record { answer = visited (visit-of s); walk = at s 0 }
     unfolding step
     step-last s l e = simp (ne-eqb (suc l) 0 (nonzero l), le-ltb last s (omega arith), eq-eqb s last e, step)
 
-    pub step-more : (s l : ℕ) → s < last → step visit last (at s (suc l)) ≡ record { answer = visited (visit s); walk = at (suc s) l }
+    pub step-more : (s l : ℕ) → s < last → step visit-of last (at s (suc l)) ≡ record { answer = visited (visit-of s); walk = at (suc s) l }
     unfolding step
     step-more s l h =
         let other : s ≢ last = omega arith in
         let less : suc l - 1 ≡ l = omega arith in
         simp (ne-eqb (suc l) 0 (nonzero l), le-ltb last s (omega arith), ne-eqb s last other, step)
-        (λ i. record { answer = visited (visit s); walk = at (add-one s i) (less i) })
+        (λ i. record { answer = visited (visit-of s); walk = at (add-one s i) (less i) })
 
     -- ---- the list: c visits are ahead
 
     -- with none ahead
-    all-ended : (w : Walk) → step visit last w ≡ record { answer = ended; walk = w } → (n : ℕ) → answers visit last n w ≡ replicate n ended
+    all-ended : (w : Walk) → step visit-of last w ≡ record { answer = ended; walk = w } → (n : ℕ) → answers visit-of last n w ≡ replicate n ended
     unfolding answers
     all-ended w e zero = refl
     all-ended w e (suc n) =
-        ap (λ (s : Stepped A). s .answer ∷ answers visit last n (s .walk)) e ∙ ap (λ (l : List (Answer A)). ended ∷ l) (all-ended w e n)
+        ap (λ (s : Stepped A). s .answer ∷ answers visit-of last n (s .walk)) e ∙ ap (λ (l : List (Answer A)). ended ∷ l) (all-ended w e n)
 
-    next-answer : (n : ℕ) (w : Walk) (v : A) (w′ : Walk) (l : List (Answer A)) → step visit last w ≡ record { answer = visited v; walk = w′ }
-        → answers visit last n w′ ≡ l → answers visit last (suc n) w ≡ visited v ∷ l
+    next-answer : (n : ℕ) (w : Walk) (v : A) (w′ : Walk) (l : List (Answer A)) → step visit-of last w ≡ record { answer = visited v; walk = w′ }
+        → answers visit-of last n w′ ≡ l → answers visit-of last (suc n) w ≡ visited v ∷ l
     unfolding answers
     next-answer n w v w′ l e rest =
-        ap (λ (s : Stepped A). s .answer ∷ answers visit last n (s .walk)) e ∙ ap (λ (k : List (Answer A)). visited v ∷ k) rest
+        ap (λ (s : Stepped A). s .answer ∷ answers visit-of last n (s .walk)) e ∙ ap (λ (k : List (Answer A)). visited v ∷ k) rest
 
-    list : (n s l c : ℕ) → c ≡ min l (suc last - s) → answers visit last n (at s l) ≡ given visit n s c
+    list : (n s l c : ℕ) → c ≡ min l (suc last - s) → answers visit-of last n (at s l) ≡ given visit-of n s c
     unfolding answers
     list zero s l c e = sym (given-no-step s c)
     list (suc n) s zero c e =
         let z : c ≡ 0 = omega arith in
-        all-ended (at s 0) (step-none s) (suc n) ∙ sym (given-end (suc n) s) ∙ ap (given visit (suc n) s) (sym z)
+        all-ended (at s 0) (step-none s) (suc n) ∙ sym (given-end (suc n) s) ∙ ap (given visit-of (suc n) s) (sym z)
     list (suc n) s (suc l) zero e =
         all-ended (at s (suc l)) (step-past s (suc l) (omega arith)) (suc n) ∙ sym (given-end (suc n) s)
     list (suc n) s (suc l) (suc c) e = go (lt-or-ge s last) (λ q. list n (suc s) l c q) (λ q. list n s 0 0 q)
       where
-        go : (s < last) ⊎ (last ≤ s) → (c ≡ min l (suc last - suc s) → answers visit last n (at (suc s) l) ≡ given visit n (suc s) c)
-            → (0 ≡ min 0 (suc last - s) → answers visit last n (at s 0) ≡ given visit n s 0)
-            → answers visit last (suc n) (at s (suc l)) ≡ given visit (suc n) s (suc c)
+        go : (s < last) ⊎ (last ≤ s) → (c ≡ min l (suc last - suc s) → answers visit-of last n (at (suc s) l) ≡ given visit-of n (suc s) c)
+            → (0 ≡ min 0 (suc last - s) → answers visit-of last n (at s 0) ≡ given visit-of n s 0)
+            → answers visit-of last (suc n) (at s (suc l)) ≡ given visit-of (suc n) s (suc c)
         go (inl h) ih done =
-            next-answer n (at s (suc l)) (visit s) (at (suc s) l) (given visit n (suc s) c) (step-more s l h) (ih (omega arith))
+            next-answer n (at s (suc l)) (visit-of s) (at (suc s) l) (given visit-of n (suc s) c) (step-more s l h) (ih (omega arith))
             ∙ sym (given-visit n s c)
         go (inr h) ih done =
             let here : s ≡ last = omega arith in
             let z : c ≡ 0 = omega arith in
-            next-answer n (at s (suc l)) (visit s) (at s 0) (given visit n s 0) (step-last s l here) (done (omega arith))
-            ∙ ap (λ (k : List (Answer A)). visited (visit s) ∷ k) (given-end n s ∙ sym (given-end n (suc s)))
-            ∙ sym (given-visit n s 0) ∙ ap (λ (k : ℕ). given visit (suc n) s (suc k)) (sym z)
+            next-answer n (at s (suc l)) (visit-of s) (at s 0) (given visit-of n s 0) (step-last s l here) (done (omega arith))
+            ∙ ap (λ (k : List (Answer A)). visited (visit-of s) ∷ k) (given-end n s ∙ sym (given-end n (suc s)))
+            ∙ sym (given-visit n s 0) ∙ ap (λ (k : ℕ). given visit-of (suc n) s (suc k)) (sym z)
 
-    pub walked-by-hand : (w : Walk) (n : ℕ) → WalkedByHand visit last w n
+    pub walked-by-hand : (w : Walk) (n : ℕ) → WalkedByHand visit-of last w n
     walked-by-hand w n = record { list = list n (w .next) (w .left) (min (w .left) (suc last - w .next)) refl }
 
     -- ---- the walk after n steps of an opened one
 
-    last-walk : (n s l : ℕ) → s ≤ last → s + l ≤ suc last → after visit last n (at s l) ≡ at (min (s + min n l) last) (l - n)
+    last-walk : (n s l : ℕ) → s ≤ last → s + l ≤ suc last → after visit-of last n (at s l) ≡ at (min (s + min n l) last) (l - n)
     unfolding after
     last-walk zero s l h f =
         let p : s ≡ min (s + min 0 l) last = omega arith in
@@ -121,24 +121,24 @@ module _ {A : Type 0} (visit : ℕ → A) where
     last-walk (suc n) s zero h f =
         let p : min (s + min n 0) last ≡ min (s + min (suc n) 0) last = omega arith in
         let q : 0 - n ≡ 0 - suc n = omega arith in
-        ap (λ (t : Stepped A). after visit last n (t .walk)) (step-none s) ∙ last-walk n s 0 h (omega arith) ∙ ap₂ at p q
+        ap (λ (t : Stepped A). after visit-of last n (t .walk)) (step-none s) ∙ last-walk n s 0 h (omega arith) ∙ ap₂ at p q
     last-walk (suc n) s (suc l) h f = go (lt-or-ge s last) (λ a b. last-walk n (suc s) l a b) (last-walk n s 0 h (omega arith))
       where
         go : (s < last) ⊎ (last ≤ s)
-            → (suc s ≤ last → suc s + l ≤ suc last → after visit last n (at (suc s) l) ≡ at (min (suc s + min n l) last) (l - n))
-            → after visit last n (at s 0) ≡ at (min (s + min n 0) last) (0 - n)
-            → after visit last n (step visit last (at s (suc l)) .walk) ≡ at (min (s + min (suc n) (suc l)) last) (suc l - suc n)
+            → (suc s ≤ last → suc s + l ≤ suc last → after visit-of last n (at (suc s) l) ≡ at (min (suc s + min n l) last) (l - n))
+            → after visit-of last n (at s 0) ≡ at (min (s + min n 0) last) (0 - n)
+            → after visit-of last n (step visit-of last (at s (suc l)) .walk) ≡ at (min (s + min (suc n) (suc l)) last) (suc l - suc n)
         go (inl k) ih done =
             let p : min (suc s + min n l) last ≡ min (s + min (suc n) (suc l)) last = omega arith in
             let q : l - n ≡ suc l - suc n = omega arith in
-            ap (λ (t : Stepped A). after visit last n (t .walk)) (step-more s l k) ∙ ih k (omega arith) ∙ ap₂ at p q
+            ap (λ (t : Stepped A). after visit-of last n (t .walk)) (step-more s l k) ∙ ih k (omega arith) ∙ ap₂ at p q
         go (inr k) ih done =
             let here : s ≡ last = omega arith in
             let p : min (s + min n 0) last ≡ min (s + min (suc n) (suc l)) last = omega arith in
             let q : 0 - n ≡ suc l - suc n = omega arith in
-            ap (λ (t : Stepped A). after visit last n (t .walk)) (step-last s l here) ∙ done ∙ ap₂ at p q
+            ap (λ (t : Stepped A). after visit-of last n (t .walk)) (step-last s l here) ∙ done ∙ ap₂ at p q
 
-    pub walked : (start count n : ℕ) → start ≤ last → start + count ≤ suc last → Walked visit last start count n
+    pub walked : (start count n : ℕ) → start ≤ last → start + count ≤ suc last → Walked visit-of last start count n
     walked start count n h f =
         let all : count ≡ min count (suc last - start) = omega arith in
         let end = last-walk n start count h f in
