@@ -54,7 +54,7 @@ module _ {A : Type 0} (f : ℕ → A) where
 pub count-map : {A : Type 0} (test : A → Bool) (f : ℕ → A) (l : List ℕ) → count test (map f l) ≡ count (λ i. test (f i)) l
 unfolding count
 count-map test f [] = refl
-count-map test f (i ∷ l) = ap (λ (n : ℕ). indicator (test (f i)) + n) (count-map test f l)
+count-map test f (i ∷ l) = rw (count-map test f l) refl
 
 module _ (test : ℕ → Bool) where
   -- none of the range, and just one
