@@ -32,6 +32,14 @@ module _ {A : Type 0} (f : ℕ → A) where
   getD-each s (suc n) zero d h = ap f (omega arith)
   getD-each s (suc n) (suc i) d h = getD-each (suc s) n i d (omega arith) ∙ ap f (omega arith)
 
+  -- one more, as a loop that fills a buffer from its front meets it
+  pub each-suc : (s n : ℕ) → map f (range s (suc n)) ≡ map f (range s n) ++ (f (s + n) ∷ [])
+  unfolding range
+  each-suc s zero = let e : s ≡ s + 0 = omega arith in ap (λ (i : ℕ). f i ∷ []) e
+  each-suc s (suc n) =
+      let e : suc s + n ≡ s + suc n = omega arith in
+      ap (λ (l : List A). f s ∷ l) (each-suc (suc s) n ∙ ap (λ (i : ℕ). map f (range (suc s) n) ++ (f i ∷ [])) e)
+
   pub take-each : (s n j : ℕ) → take j (map f (range s n)) ≡ map f (range s (min j n))
   unfolding range
   take-each s n zero = let e : 0 ≡ min 0 n = omega arith in ap (λ (c : ℕ). map f (range s c)) e

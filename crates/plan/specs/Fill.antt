@@ -1,0 +1,30 @@
+-- What a fill answers, and what it leaves in the two buffers.
+use mathlib.Core.Bool.{not}
+use mathlib.Core.List.{List, [], _∷_, map}
+use Prim.Native.Nat.{ℕ, _+_, _^_}
+use lib.Dec.{eqb, ltb}
+use lib.ListN.{length}
+use Rattle.net.specs.Sequence.{Sequence}
+use Rattle.net.specs.Run.{range}
+use Rattle.refusal.specs.Outcome.{Outcome, accepted, first, granted}
+
+-- refused with 8 where the buffers differ in length, with 9 where the indexes would go past the last
+abbrev pub filling : ℕ → List ℕ → List ℕ → Outcome Unit
+filling start xs ys =
+    first (
+    record { number = 8; holds = not (eqb (length xs) (length ys)) }
+    ∷ record { number = 9; holds = ltb (2 ^ 32) (start + length xs) }
+    ∷ []
+    ) (accepted tt)
+
+-- the content of the two buffers
+pub record Buffers : Type 0 where
+  pub x : List ℕ
+  pub y : List ℕ
+
+-- the coordinates of the indexes from start on, in order, in every place of both; a refused fill leaves what was there
+abbrev pub filled : Sequence → ℕ → List ℕ → List ℕ → Buffers
+filled S start xs ys =
+    granted (filling start xs ys)
+    (record { x = map (S .x) (range start (length xs)); y = map (S .y) (range start (length ys)) })
+    (record { x = xs; y = ys })

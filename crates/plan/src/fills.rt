@@ -1,0 +1,50 @@
+// A fill: the coordinates of consecutive indexes, written into two lent buffers.
+ghost use mathlib.Core.Path.{_≡_};
+ghost use mathlib.Core.List.{map};
+ghost use Prim.Native.Nat.{ℕ, _+_, _≤_, _^_};
+ghost use lib.ListN.{length};
+ghost use Rattle.digits.specs.Digits.{plus};
+ghost use Rattle.net.specs.Generators.{product};
+ghost use Rattle.net.specs.Run.{range};
+ghost use Rattle.refusal.specs.Refusal.{of-judgement};
+ghost use Rattle.plan.specs.Pair.{sequence};
+ghost use Rattle.plan.specs.Fill.{filling, filled};
+use crate::Plan;
+use crate::Shift;
+use refusal::Judgement;
+use refusal::Refusal;
+
+// Writes the points of the indexes from start on, as many as the buffers have room for. A refused call writes nothing.
+pub fn fill(plan: Plan, shift: Shift, start: u32, xs: &mut [u32], ys: &mut [u32]) -> Judgement
+    ensures answer { λ r. ⌜ of-judgement r ≡ filling start (now (xs .entry)) (now (ys .entry)) ⌝ }
+    ensures first { λ r. ⌜ now (xs .exit) ≡ filled (sequence plan shift) start (now (xs .entry)) (now (ys .entry)) .x ⌝ }
+    ensures second { λ r. ⌜ now (ys .exit) ≡ filled (sequence plan shift) start (now (xs .entry)) (now (ys .entry)) .y ⌝ }
+{
+    let n = xs.len();
+    if n != ys.len() {
+        return Judgement::Refused(Refusal::BufferLengths);
+    }
+    if n > 4294967296 {
+        return Judgement::Refused(Refusal::IndexRange);
+    }
+    if start as usize + n > 4294967296 {
+        return Judgement::Refused(Refusal::IndexRange);
+    }
+    let x = plan.x;
+    let y = plan.y;
+    coordinates(x, shift.x, start, xs);
+    coordinates(y, shift.y, start, ys);
+    Judgement::Accepted
+}
+
+// One axis of a fill.
+fn coordinates(columns: [u32; 32], shift: u32, start: u32, out: &mut [u32])
+    requires { ⌜ start + length (now out) ≤ 2 ^ 32 ⌝ }
+    ensures { λ _. ⌜ now (out .exit) ≡ map (λ (i : ℕ). plus 2 (product 2 columns i) shift) (range start (length (now (out .entry)))) ⌝ }
+{
+    let mut k = 0;
+    while k < out.len() {
+        out[k] = word::coordinate(columns, start + k as u32, shift);
+        k += 1;
+    }
+}

@@ -1,0 +1,28 @@
+-- What a call comes to, and refusals as an ordered list of tests.
+use mathlib.Core.Bool.{Bool, true, false}
+use mathlib.Core.List.{List, [], _∷_}
+use Prim.Native.Nat.{ℕ}
+
+-- a value, or a refusal by its number in 01's table, with the values that it gives
+pub data Outcome (A : Type 0) : Type 0 where
+  accepted : A → Outcome A
+  refused : (number : ℕ) (values : List ℕ) → Outcome A
+
+-- 3 gives the shape (m, a) and its j, the others give nothing
+abbrev pub not-net : {A : Type 0} → ℕ → ℕ → ℕ → Outcome A
+not-net m a j = refused 3 (m ∷ a ∷ j ∷ [])
+
+-- a test of the arguments, and the number of the refusal where it holds
+pub record Test : Type 0 where
+  pub number : ℕ
+  pub holds : Bool
+
+-- the refusal of the first test that holds, or else what comes after the tests
+unfoldable pub first : {A : Type 0} → List Test → Outcome A → Outcome A
+first [] after = after
+first (t ∷ ts) after = elim (t .holds) [ true ↦ refused (t .number) [] | false ↦ first ts after ]
+
+-- one thing where the call is accepted, another where it is refused
+unfoldable pub granted : {A B : Type 0} → Outcome A → B → B → B
+granted (accepted a) one other = one
+granted (refused n vs) one other = other

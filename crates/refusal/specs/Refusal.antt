@@ -1,0 +1,65 @@
+-- The code's refusals: the number in 01's table and the values of each, and the outcome that a judgement stands for.
+use mathlib.Core.List.{List, [], _∷_}
+use Prim.Native.Nat.{ℕ}
+use Rattle.refusal.specs.Outcome.{Outcome, accepted, refused}
+use Rattle.refusal.specs.declared.Refusal.{Refusal}
+use Rattle.refusal.specs.declared.Refusal.the-variants as variant
+use Rattle.refusal.specs.declared.Judgement.{Judgement}
+use Rattle.refusal.specs.declared.Judgement.the-variants as judgement
+
+-- 1: the pair is not 64 words
+-- 2: the level is not 1 to 32
+-- 3: not a net
+-- 4: m above the level
+-- 5: a above m
+-- 6: column ≥ 2 ^ a or row ≥ 2 ^ (m - a)
+-- 7: block ≥ 2 ^ (32 - m)
+-- 8: buffers differ in length
+-- 9: start + count above 2 ^ 32
+-- 10: a region's edge or extent outside its limits
+-- 11: the file is empty, too long, or not whole records
+-- 12: bytes 8 to 31 of record 0 not zero
+-- 13: the chain names a record that the file lacks
+-- 14: the chain returns to a record
+-- 15: a count of visits above 4,096
+abbrev pub number : Refusal → ℕ
+number variant.WordCount = 1
+number variant.Level = 2
+number (variant.NotNet m a j) = 3
+number variant.Size = 4
+number variant.Shape = 5
+number variant.Cell = 6
+number variant.Block = 7
+number variant.BufferLengths = 8
+number variant.IndexRange = 9
+number variant.Region = 10
+number variant.FileLength = 11
+number variant.Header = 12
+number variant.MissingRecord = 13
+number variant.ChainReturns = 14
+number variant.VisitCount = 15
+
+-- what a refusal gives besides its number: 3 the shape (m, a) and j
+abbrev pub values : Refusal → List ℕ
+values variant.WordCount = []
+values variant.Level = []
+values (variant.NotNet m a j) = m ∷ a ∷ j ∷ []
+values variant.Size = []
+values variant.Shape = []
+values variant.Cell = []
+values variant.Block = []
+values variant.BufferLengths = []
+values variant.IndexRange = []
+values variant.Region = []
+values variant.FileLength = []
+values variant.Header = []
+values variant.MissingRecord = []
+values variant.ChainReturns = []
+values variant.VisitCount = []
+
+abbrev pub of-refusal : {A : Type 0} → Refusal → Outcome A
+of-refusal r = refused (number r) (values r)
+
+abbrev pub of-judgement : Judgement → Outcome Unit
+of-judgement judgement.Accepted = accepted tt
+of-judgement (judgement.Refused r) = of-refusal r

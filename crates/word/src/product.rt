@@ -1,0 +1,19 @@
+// A coordinate: the product of the columns of a generator matrix with the bits of an index, and a digital shift.
+ghost use mathlib.Core.Path.{_≡_};
+ghost use Rattle.digits.specs.Digits.{plus};
+ghost use Rattle.net.specs.Generators.{product};
+
+// The exclusive or of the columns whose index bit is set, and of the shift. A column times its bit takes no branch.
+pub fn coordinate(columns: [u32; 32], index: u32, shift: u32) -> u32
+    ensures { λ r. ⌜ r ≡ plus 2 (product 2 columns index) shift ⌝ }
+{
+    let mut sum = shift;
+    let mut rest = index;
+    let mut c: usize = 0;
+    while c < 32 {
+        sum ^= columns[c] * (rest % 2);
+        rest /= 2;
+        c += 1;
+    }
+    sum
+}
