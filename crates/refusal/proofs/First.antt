@@ -1,8 +1,9 @@
 -- Laws of the ordered tests: how the first of them decides; and of what is granted. Assumes nothing.
-use mathlib.Core.Path.{_≡_, refl, ap}
+use mathlib.Core.Path.{_≡_, refl, sym, ap}
 use mathlib.Core.Bool.{Bool, true, false}
 use mathlib.Core.List.{List, [], _∷_}
 use Prim.Native.Nat.{ℕ}
+use native.Mathlib.Omega.{arith}
 use Rattle.refusal.specs.Outcome.{Outcome, accepted, refused, Test, first, granted}
 
 module _ {A : Type 0} (after : Outcome A) where
@@ -18,6 +19,33 @@ module _ {A : Type 0} (after : Outcome A) where
     pub first-passes : holds ≡ false → first (record { number = n; holds = holds } ∷ ts) after ≡ first ts after
     unfolding first
     first-passes e = rw e refl
+
+-- accepted is not refused
+accepted-or-not : {A : Type 0} → Outcome A → ℕ
+accepted-or-not (accepted a) = 0
+accepted-or-not (refused n vs) = 1
+
+pub accepted-refused : {A : Type 0} {a : A} {n : ℕ} {vs : List ℕ} → accepted a ≡ refused n vs → ⊥
+unfolding accepted-or-not
+accepted-refused e = let z : _≡_ {A = ℕ} 0 1 = ap accepted-or-not e in omega arith
+
+-- a test decides before others as it does alone
+module _ {A B : Type 0} (a : A) (after : Outcome B) (n : ℕ) (ts : List Test) where
+  pub alone-refuses : (holds : Bool) {k : ℕ} {vs : List ℕ} → first (record { number = n; holds = holds } ∷ []) (accepted a) ≡ refused k vs
+      → first (record { number = n; holds = holds } ∷ ts) after ≡ refused k vs
+  unfolding first
+  alone-refuses true e = ap again e
+    where
+      again : Outcome A → Outcome B
+      again (accepted a) = after
+      again (refused k vs) = refused k vs
+  alone-refuses false e = absurd (accepted-refused e)
+
+  pub alone-passes : (holds : Bool) {b : A} → first (record { number = n; holds = holds } ∷ []) (accepted a) ≡ accepted b
+      → first (record { number = n; holds = holds } ∷ ts) after ≡ first ts after
+  unfolding first
+  alone-passes true e = absurd (accepted-refused (sym e))
+  alone-passes false e = refl
 
 module _ {A B : Type 0} {o : Outcome A} (one other : B) where
   pub granted-accepted : {a : A} → o ≡ accepted a → granted o one other ≡ one

@@ -1,0 +1,36 @@
+-- The code's way from a cell to the index: its exclusive ors are the definitions' differences. Assumes nothing.
+use mathlib.Core.Path.{_≡_, sym, ap, _∙_, subst}
+use mathlib.Core.List.{List}
+use Prim.Native.Nat.{ℕ, _+_, _-_, _*_, _^_, _<_}
+use native.Mathlib.Nat.{lt-of-lt-of-le}
+use lib.Pow.{pow-mono}
+use Rattle.digits.proofs.Arithmetic.{zero-plus}
+use Rattle.digits.proofs.Two.{one-lt-two}
+use Rattle.linear.specs.Unique.{Only}
+use Rattle.net.specs.Sequence.{Fits, VisitIn}
+use Rattle.net.specs.Finish.{plain, shifted}
+use Rattle.net.specs.Shape.{Shape}
+use Rattle.net.specs.Elimination.{interval, solve, plain-interval, basis-index}
+use Rattle.net.specs.Answers.{Solved}
+use Rattle.net.proofs.Interval.{plain-fits, plain-interval-lt, interval-additive}
+use Rattle.net.proofs.Finish.{shift-lawful, finished-fits}
+use Rattle.plan.specs.Pair.{pair}
+use Rattle.stratify.specs.Basis.{entries, Images, Sweeps}
+
+module _ {x y : List ℕ} {m a : ℕ} (shape : Shape (pair x y) m a) (s t : ℕ) (hs : s < 2 ^ 32) (ht : t < 2 ^ 32)
+    (k c r : ℕ) (hc : c < 2 ^ a) (hr : r < 2 ^ (m - a)) where
+  fits : Fits (shifted (pair x y) s t)
+  fits = finished-fits (plain-fits (shape .valid)) (record { x = shift-lawful one-lt-two 32 s hs; y = shift-lawful one-lt-two 32 t ht })
+
+  pub cell-lt : plain-interval (shifted (pair x y) s t) m a k c r < 2 ^ 32
+  cell-lt = lt-of-lt-of-le (plain-interval-lt one-lt-two fits m a (shape .wide) (shape .fits) k c r hc hr) (pow-mono (shape .fits))
+
+  pub answer : (words indexes : List ℕ) (cell word index : ℕ) → Solved (pair x y) m a (entries words indexes m)
+      → Images (interval (plain (pair x y)) m a) words indexes m → cell ≡ plain-interval (shifted (pair x y) s t) m a k c r
+      → Sweeps words indexes m cell 0 word index → Only (VisitIn (shifted (pair x y) s t) m a k c r) (k * 2 ^ m + index)
+  unfolding basis-index
+  answer words indexes cell word index solved images e swept =
+      let L = interval (plain (pair x y)) m a in
+      let p = swept L (interval-additive shape) images .moved ∙ zero-plus one-lt-two (solve 2 L (entries words indexes m) cell)
+      ∙ ap (solve 2 L (entries words indexes m)) e in
+      subst (λ (i : ℕ). Only (VisitIn (shifted (pair x y) s t) m a k c r) (k * 2 ^ m + i)) (sym p) (solved .answers-shifted s t hs ht k c r hc hr)

@@ -1,0 +1,4 @@
+pub mod Reduction
+pub mod Refinement
+pub mod Cell
+pub mod Tests

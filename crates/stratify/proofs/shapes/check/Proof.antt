@@ -1,0 +1,81 @@
+-- `stratify::shapes::check` meets its contract: 1 as loading has it, then the level, then the shapes. Assumes nothing.
+use mathlib.Core.Path.{_≡_, sym, ap, _∙_}
+use mathlib.Core.Bool.{not}
+use mathlib.Core.List.{[], _∷_}
+use lib.Dec.{eqb}
+use lib.ListN.{length}
+use borrow.Author.Needs.{needs}
+use Rattle.net.specs.Check.{check}
+use Rattle.refusal.specs.Outcome.{Outcome, first}
+use Rattle.refusal.specs.Refusal.{of-judgement}
+use Rattle.refusal.specs.declared.Judgement.{Judgement}
+use Rattle.refusal.proofs.First.{first-none, first-refuses, first-passes, alone-refuses, alone-passes}
+use Rattle.plan.specs.declared.pair.Plan.{Plan}
+use Rattle.plan.specs.Pair.{generators, loaded}
+use Rattle.stratify.specs.Answers.{of-verdict, unknown-level, checking}
+use Rattle.stratify.proofs.Tests.{level-low, level-high, level-known}
+use Rattle.stratify.proofs.shapes.check.Statement.{statement}
+use Rattle.stratify.proofs.shapes.check.Tie as tie
+
+-- what comes after the tests
+abbrev verdict : tie.Start → Outcome Unit
+verdict s = of-verdict (check (generators (loaded (s .args .words .now))) (s .args .level))
+
+-- 64 words were loaded
+pair-passed : (c : tie.After-enum-told) → let s = c .before .before .before .before in
+    checking (s .args .words .now) (s .args .level) ≡ first (unknown-level (s .args .level) ∷ []) (verdict s)
+pair-passed c =
+    let s = c .before .before .before .before in
+    let loading-is = sym (c .before .before .load .ensures .0) ∙ ap of-judgement (c .enum-told .given .1) in
+    alone-passes tt (verdict s) 1 _ (not (eqb (length (s .args .words .now)) 64)) loading-is
+
+load-requires : tie.Need-load-requires
+load-requires c κs = search needs
+
+enum-known-answer : tie.Need-enum-known-answer
+enum-known-answer c = search needs
+
+returns : tie.Need-returns
+returns c =
+    let s = c .before .before .before .before .before in
+    let w = s .args .words .now in
+    let loading-is = sym (c .before .before .before .load .ensures .0) ∙ ap of-judgement (c .before .answer .given .1) in
+    sym (alone-refuses tt (verdict s) 1 _ (not (eqb (length w) 64)) loading-is)
+
+enum-told : tie.Need-enum-told
+enum-told c = search needs
+
+returns-2 : tie.Need-returns-2
+returns-2 c =
+    let s = c .before .before .before .before .before in
+    sym (pair-passed (c .before) ∙ first-refuses (verdict s) 2 [] (level-low (s .args .level) (c .if1 .taken)))
+
+returns-3 : tie.Need-returns-3
+returns-3 c =
+    let s = c .before .before .before .before .before .before in
+    sym (pair-passed (c .before .before) ∙ first-refuses (verdict s) 2 [] (level-high (s .args .level) (c .before .if1 .left) (c .if2 .taken)))
+
+scan-requires : tie.Need-scan-requires
+scan-requires c κs = search needs
+
+returns-4 : tie.Need-returns-4
+returns-4 c =
+    let d = c .before .before .before in
+    let told = d .before .before in
+    let s = told .before .before .before .before in
+    c .scan .ensures
+    ∙ ap (λ (P : Plan). of-verdict (check (generators P) (s .args .level))) (told .before .before .load .ensures .1)
+    ∙ sym (pair-passed told ∙ first-passes (verdict s) 2 [] (level-known (s .args .level) (d .before .if1 .left) (d .if2 .left)) ∙ first-none (verdict s))
+
+pub check-spec : {M : Type 1} → statement M
+check-spec =
+    tie.close
+    (tie.spec
+    load-requires
+    enum-known-answer
+    returns
+    enum-told
+    returns-2
+    returns-3
+    scan-requires
+    returns-4)

@@ -1,0 +1,91 @@
+-- `stratify::shapes::scan` meets its contract. Assumes nothing.
+use mathlib.Core.Path.{_≡_, sym, ap}
+use Prim.Native.Nat.{_+_, _-_, _*_, _≤_, _<_}
+use native.Mathlib.Omega.{arith}
+use borrow.Author.Needs.{needs}
+use lib.ListN.{getD}
+use mir.Syntax.{w32}
+use mir.Val.{Fits}
+use Rattle.linear.proofs.Prime.{two}
+use Rattle.net.specs.Generators.{Valid}
+use Rattle.net.specs.Check.{Cleared}
+use Rattle.net.proofs.Check.{scan-none, scan-next, scan-row, scan-all, scan-stops}
+use Rattle.plan.specs.Pair.{pair}
+use Rattle.stratify.specs.Answers.{of-verdict}
+use Rattle.stratify.proofs.Refinement.{valid-of}
+use Rattle.stratify.proofs.shapes.scan.Statement.{statement}
+use Rattle.stratify.proofs.shapes.scan.Tie as tie
+
+abbrev Inv-loop : tie.InvT-loop
+Inv-loop x y level m₀ a₀ m a = (0 < m) × (a ≤ m) × (m ≤ level + 1) × Cleared (pair x y) m a
+
+abbrev μ-loop : tie.MeasureT-loop
+μ-loop x y level m₀ a₀ m a = (33 - m) * 34 + (m - a)
+
+valid : (s : tie.Start Inv-loop μ-loop) → Valid (pair (s .args .x) (s .args .y))
+valid s =
+    valid-of (s .args .x) (s .args .y)
+    (λ t. let f : Fits w32 (getD (s .args .x) t 0) = search needs in f .fits)
+    (λ t. let f : Fits w32 (getD (s .args .y) t 0) = search needs in f .fits)
+
+loop-holds : tie.Need-loop-holds Inv-loop μ-loop
+loop-holds c = (omega arith, omega arith, omega arith, scan-none _)
+
+eliminate-requires : tie.Need-eliminate-requires Inv-loop μ-loop
+eliminate-requires c κs = (omega arith, omega arith)
+
+returns : tie.Need-returns Inv-loop μ-loop
+returns c =
+    let s = c .before .before .before .before in
+    let l = c .before .before .before .loop in
+    let e = c .before .eliminate in
+    sym (ap of-verdict (scan-stops (valid s) two (s .args .level) (s .pre) (l .m) (l .a) (e .result .bad) (l .inv .0) (omega arith) (l .inv .1) (l .inv .3) (e .ensures .least (c .if1 .taken))))
+
+add-a : tie.Need-add-a Inv-loop μ-loop
+add-a c = omega arith
+
+loop-less : tie.Need-loop-less Inv-loop μ-loop
+loop-less c = omega arith
+
+loop-again : tie.Need-loop-again Inv-loop μ-loop
+loop-again c =
+    let l = c .before .before .before .before .loop in
+    let e = c .before .before .eliminate in
+    let good : e .result .bad ≡ 0 = omega arith in
+    (omega arith, omega arith, omega arith, scan-next _ (l .m) (l .a) (l .inv .3) (e .ensures .solved good .nonzero))
+
+add-m : tie.Need-add-m Inv-loop μ-loop
+add-m c = omega arith
+
+loop-less-2 : tie.Need-loop-less-2 Inv-loop μ-loop
+loop-less-2 c = omega arith
+
+loop-again-2 : tie.Need-loop-again-2 Inv-loop μ-loop
+loop-again-2 c =
+    let l = c .before .before .before .before .loop in
+    let e = c .before .before .eliminate in
+    let good : e .result .bad ≡ 0 = omega arith in
+    (omega arith, omega arith, omega arith, scan-row _ (l .m) (l .a) (omega arith) (l .inv .3) (e .ensures .solved good .nonzero))
+
+returns-2 : tie.Need-returns-2 Inv-loop μ-loop
+returns-2 c =
+    let s = c .before .before in
+    let l = c .before .loop in
+    sym (ap of-verdict (scan-all (valid s) two (s .args .level) (s .pre) (l .m) (l .a) (omega arith) (l .inv .3)))
+
+pub scan-spec : {M : Type 1} → statement M
+scan-spec =
+    tie.close
+    (tie.spec
+    Inv-loop
+    μ-loop
+    loop-holds
+    eliminate-requires
+    returns
+    add-a
+    loop-less
+    loop-again
+    add-m
+    loop-less-2
+    loop-again-2
+    returns-2)

@@ -1,0 +1,51 @@
+-- What the check and the query answer.
+use mathlib.Core.Bool.{_||_}
+use mathlib.Core.List.{List, [], _∷_}
+use Prim.Native.Nat.{ℕ, _-_, _^_}
+use lib.Dec.{leb, ltb}
+use Rattle.net.specs.Finish.{shift}
+use Rattle.net.specs.Check.{Verdict, passed, refused, check}
+use Rattle.net.specs.Query.{Location, found, no-net, locate}
+use Rattle.refusal.specs.Outcome.{Outcome, accepted, not-net, Test, first}
+use Rattle.refusal.specs.Refusal.{of-refusal}
+use Rattle.plan.specs.declared.pair.Plan.{Plan}
+use Rattle.plan.specs.declared.pair.Shift.{Shift}
+use Rattle.plan.specs.Pair.{generators, loaded, not-a-pair, largest-level}
+use Rattle.stratify.specs.declared.cells.Located.{Located}
+use Rattle.stratify.specs.declared.cells.Located.the-variants as located
+
+-- 2: the level is not 1 to 32
+abbrev pub unknown-level : ℕ → Test
+unknown-level level = record { number = 2; holds = ltb level 1 || ltb largest-level level }
+
+-- the check refuses under 1, 2 and 3, and 3 gives the first bad shape and its j
+abbrev pub of-verdict : Verdict → Outcome Unit
+of-verdict passed = accepted tt
+of-verdict (refused m a j) = not-net m a j
+
+abbrev pub checking : List ℕ → ℕ → Outcome Unit
+checking words level = first (not-a-pair words ∷ unknown-level level ∷ []) (of-verdict (check (generators (loaded words)) level))
+
+-- the query refuses under 2, 4, 5, 6, 7 and 3, and 3 gives its own shape (m, a) and that shape's j
+abbrev pub of-location : ℕ → ℕ → Location → Outcome ℕ
+of-location m a (found i) = accepted i
+of-location m a (no-net j) = not-net m a j
+
+abbrev pub query-tests : (level m a c r k : ℕ) → List Test
+query-tests level m a c r k =
+    unknown-level level
+    ∷ record { number = 4; holds = ltb level m }
+    ∷ record { number = 5; holds = ltb m a }
+    ∷ record { number = 6; holds = leb (2 ^ a) c || leb (2 ^ (m - a)) r }
+    ∷ record { number = 7; holds = leb (2 ^ (32 - m)) k }
+    ∷ []
+
+-- column c and row r of the shape (m, a), in block k
+abbrev pub querying : Plan → Shift → (level m a c r k : ℕ) → Outcome ℕ
+querying P s level m a c r k =
+    first (query-tests level m a c r k) (of-location m a (locate (generators P) (shift 2 (s .x) (s .y)) m a k c r))
+
+-- the code's answer
+abbrev pub of-located : Located → Outcome ℕ
+of-located (located.Found i) = accepted i
+of-located (located.Refused r) = of-refusal r

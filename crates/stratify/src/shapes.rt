@@ -1,0 +1,57 @@
+// The check of generator matrices: the shapes in their order, up to the first that is no net.
+ghost use mathlib.Core.Path.{_≡_};
+ghost use Prim.Native.Nat.{_≤_};
+ghost use Rattle.net.specs.Check.{check};
+ghost use Rattle.refusal.specs.Refusal.{of-judgement};
+ghost use Rattle.plan.specs.Pair.{pair};
+ghost use Rattle.stratify.specs.Answers.{of-verdict, checking};
+use crate::elimination::eliminate;
+use plan::Plan;
+use refusal::Judgement;
+use refusal::Refusal;
+
+// The first bad shape, m rising and then a rising.
+fn scan(x: [u32; 32], y: [u32; 32], level: u32) -> Judgement
+    requires { ⌜ level ≤ 32 ⌝ }
+    ensures { λ r. ⌜ of-judgement r ≡ of-verdict (check (pair x y) level) ⌝ }
+{
+    let mut m = 1u32;
+    let mut a = 0u32;
+    while m <= level {
+        let e = eliminate(x, y, m, a);
+        let bad = e.bad;
+        if bad != 0 {
+            return Judgement::Refused(Refusal::NotNet { m, a, j: bad });
+        }
+        if a < m {
+            a += 1;
+        } else {
+            m += 1;
+            a = 0;
+        }
+    }
+    Judgement::Accepted
+}
+
+// Whether the generator matrices that 64 words hold, the columns of X first, pass the level.
+pub fn check(words: &[u32], level: u32) -> Judgement
+    ensures { λ r. ⌜ of-judgement r ≡ checking (now (words .entry)) level ⌝ }
+{
+    let loaded = Plan::load(words);
+    let answer = loaded.answer;
+    match answer {
+        Judgement::Refused(why) => {
+            return Judgement::Refused(why);
+        }
+        Judgement::Accepted => {}
+    }
+    if level < 1 {
+        return Judgement::Refused(Refusal::Level);
+    }
+    if level > Plan::LARGEST_LEVEL {
+        return Judgement::Refused(Refusal::Level);
+    }
+    let x = loaded.plan.x;
+    let y = loaded.plan.y;
+    scan(x, y, level)
+}
