@@ -1,3 +1,4 @@
 pub mod Pair
 pub mod Fill
 pub mod Walk
+pub mod Lists

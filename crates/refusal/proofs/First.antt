@@ -29,8 +29,20 @@ pub accepted-refused : {A : Type 0} {a : A} {n : ℕ} {vs : List ℕ} → accept
 unfolding accepted-or-not
 accepted-refused e = let z : _≡_ {A = ℕ} 0 1 = ap accepted-or-not e in omega arith
 
+-- what is accepted has passed each test
+module _ {A : Type 0} (after : Outcome A) (n : ℕ) (ts : List Test) {b : A} where
+  pub first-accepted : (holds : Bool) → first (record { number = n; holds = holds } ∷ ts) after ≡ accepted b
+      → (holds ≡ false) × (first ts after ≡ accepted b)
+  unfolding first
+  first-accepted true e = absurd (accepted-refused (sym e))
+  first-accepted false e = (refl, e)
+
 -- a test decides before others as it does alone
 module _ {A B : Type 0} (a : A) (after : Outcome B) (n : ℕ) (ts : List Test) where
+  pub alone-passes : (holds : Bool) {b : A} → first (record { number = n; holds = holds } ∷ []) (accepted a) ≡ accepted b
+      → first (record { number = n; holds = holds } ∷ ts) after ≡ first ts after
+  alone-passes holds e = first-passes after n ts (first-accepted (accepted a) n [] holds e .0)
+
   pub alone-refuses : (holds : Bool) {k : ℕ} {vs : List ℕ} → first (record { number = n; holds = holds } ∷ []) (accepted a) ≡ refused k vs
       → first (record { number = n; holds = holds } ∷ ts) after ≡ refused k vs
   unfolding first
@@ -40,12 +52,6 @@ module _ {A B : Type 0} (a : A) (after : Outcome B) (n : ℕ) (ts : List Test) w
       again (accepted a) = after
       again (refused k vs) = refused k vs
   alone-refuses false e = absurd (accepted-refused e)
-
-  pub alone-passes : (holds : Bool) {b : A} → first (record { number = n; holds = holds } ∷ []) (accepted a) ≡ accepted b
-      → first (record { number = n; holds = holds } ∷ ts) after ≡ first ts after
-  unfolding first
-  alone-passes true e = absurd (accepted-refused (sym e))
-  alone-passes false e = refl
 
 module _ {A B : Type 0} {o : Outcome A} (one other : B) where
   pub granted-accepted : {a : A} → o ≡ accepted a → granted o one other ≡ one

@@ -2,3 +2,5 @@ pub mod Reduction
 pub mod Refinement
 pub mod Cell
 pub mod Tests
+pub mod Outcomes
+pub mod Theorem

@@ -1,0 +1,80 @@
+-- Point calls, fills and walks give the visits of consecutive indexes. Assumes nothing.
+use mathlib.Core.Path.{_≡_, refl, sym, ap, ap₂, _∙_}
+use mathlib.Core.Bool.{false, not}
+use mathlib.Core.List.{List, [], _∷_, _++_, map, append-nil}
+use Prim.Native.Nat.{ℕ, zero, suc, _+_, _-_, _^_, _≤_, min}
+use native.Mathlib.Omega.{arith}
+use borrow.Author.Tests.{ltb-false, not-false, eqb-true}
+use lib.Dec.{eqb, ltb}
+use lib.ListN.{length, replicate}
+use Rattle.net.specs.Sequence.{Sequence}
+use Rattle.net.specs.Run.{Visit, range, visit, visits}
+use Rattle.net.specs.Walk.{Walk, Answer, visited, ended, answers, given}
+use Rattle.net.specs.Steps.{Walked}
+use Rattle.net.proofs.Walk.{walked}
+use Rattle.refusal.specs.Outcome.{Outcome, accepted, refused, first}
+use Rattle.refusal.proofs.First.{first-none, first-accepted}
+use Rattle.plan.specs.Fill.{Buffers, filling, filled}
+use Rattle.plan.specs.Walk.{last-index, opening}
+use Rattle.plan.specs.Lists.{paired, held, told}
+use Rattle.plan.proofs.Filling.{written}
+
+-- ---- fills
+
+paired-each : (S : Sequence) (start n : ℕ) → paired start (map (S .x) (range start n)) (map (S .y) (range start n)) ≡ visits S start n
+unfolding paired range
+paired-each S start zero = refl
+paired-each S start (suc n) = ap (λ (l : List Visit). visit S start ∷ l) (paired-each S (suc start) n)
+
+pub filled-visits : (S : Sequence) (start : ℕ) (xs ys : List ℕ) → filling start xs ys ≡ accepted tt
+    → held start (filled S start xs ys) ≡ visits S start (length xs)
+filled-visits S start xs ys e =
+    let (passed, after) = first-accepted (accepted tt) 8 _ (not (eqb (length xs) (length ys))) e in
+    let equal = eqb-true (length xs) (length ys) (not-false (eqb (length xs) (length ys)) passed) in
+    ap (held start) (written start xs ys S e)
+    ∙ ap (λ (n : ℕ). paired start (map (S .x) (range start (length xs))) (map (S .y) (range start n))) (sym equal)
+    ∙ paired-each S start (length xs)
+
+-- ---- walks
+
+value : Outcome Walk → Walk → Walk
+value (accepted w) d = w
+value (refused n vs) d = d
+
+module _ (start count : ℕ) (w : Walk) (accepts : opening start count ≡ accepted w) where
+  abbrev new : Walk
+  new = record { next = start; left = count }
+
+  passed : (ltb (2 ^ 32) (start + count) ≡ false) × (first [] (accepted new) ≡ accepted w)
+  passed = first-accepted (accepted new) 9 [] (ltb (2 ^ 32) (start + count)) accepts
+
+  pub opened : w ≡ record { next = start; left = count }
+  unfolding value
+  opened = sym (ap (λ (o : Outcome Walk). value o w) (sym (first-none (accepted new)) ∙ passed .1))
+
+  pub within : start + count ≤ 2 ^ 32
+  within = ltb-false (2 ^ 32) (start + count) (passed .0)
+
+told-append : (S : Sequence) (l : List ℕ) (r : List (Answer Visit)) → told (map (λ i. visited (visit S i)) l ++ r) ≡ map (visit S) l ++ told r
+unfolding told
+told-append S [] r = refl
+told-append S (i ∷ l) r = ap (λ (t : List Visit). visit S i ∷ t) (told-append S l r)
+
+told-ended : (k : ℕ) → told (replicate k ended) ≡ []
+unfolding told
+told-ended zero = refl
+told-ended (suc k) = told-ended k
+
+told-given : (S : Sequence) (n start count : ℕ) → told (given (visit S) n start count) ≡ visits S start (min n count)
+told-given S n start count =
+    told-append S (range start (min n count)) (replicate (n - count) ended)
+    ∙ ap (λ (t : List Visit). visits S start (min n count) ++ t) (told-ended (n - count))
+    ∙ append-nil (visits S start (min n count))
+
+module _ (S : Sequence) (start count : ℕ) (w : Walk) (accepts : opening start count ≡ accepted w) (from : start ≤ last-index) (n : ℕ) where
+  pub steps : Walked (visit S) last-index start count n
+  steps = walked (visit S) last-index start count n from (within start count w accepts)
+
+  pub walk-visits : told (answers (visit S) last-index n w) ≡ visits S start (min n count)
+  walk-visits =
+      ap (λ (v : Walk). told (answers (visit S) last-index n v)) (opened start count w accepts) ∙ ap told (steps .list) ∙ told-given S n start count

@@ -1,0 +1,30 @@
+-- What point calls, a fill and the steps of a walk give, as lists of visits.
+use mathlib.Core.List.{List, [], _∷_, map}
+use Prim.Native.Nat.{ℕ, suc}
+use Rattle.net.specs.Sequence.{Sequence, point}
+use Rattle.net.specs.Run.{Visit, range}
+use Rattle.net.specs.Walk.{Answer, visited, ended}
+use Rattle.plan.specs.Fill.{Buffers}
+
+-- an index with a point
+abbrev pub at : ℕ → ℕ × ℕ → Visit
+at i p = record { index = i; x = p .0; y = p .1 }
+
+-- the point calls for n indexes from start on, in rising order
+abbrev pub pointed : Sequence → ℕ → ℕ → List Visit
+pointed S start n = map (λ i. at i (point S i)) (range start n)
+
+-- what two buffers hold, read as the points of the indexes from start on
+unfoldable pub paired : ℕ → List ℕ → List ℕ → List Visit
+paired start [] ys = []
+paired start (x ∷ xs) [] = []
+paired start (x ∷ xs) (y ∷ ys) = at start (x, y) ∷ paired (suc start) xs ys
+
+abbrev pub held : ℕ → Buffers → List Visit
+held start b = paired start (b .x) (b .y)
+
+-- the visits that a list of steps has given
+unfoldable pub told : List (Answer Visit) → List Visit
+told [] = []
+told (visited v ∷ l) = v ∷ told l
+told (ended ∷ l) = told l

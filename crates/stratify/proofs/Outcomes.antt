@@ -1,0 +1,73 @@
+-- Past their tests the check is net's check and the query net's query; what their outcomes tell of those. Assumes nothing.
+use mathlib.Core.Path.{_≡_, refl, sym, ap, _∙_}
+use mathlib.Core.Logic.{_↔_}
+use mathlib.Core.Bool.{not, _||_}
+use mathlib.Core.List.{List, []}
+use Prim.Native.Nat.{ℕ, _-_, _^_}
+use borrow.Author.Tests.{eq-eqb, le-ltb, lt-leb}
+use lib.Dec.{eqb}
+use lib.ListN.{length}
+use Rattle.net.specs.Finish.{shift}
+use Rattle.net.specs.Check.{Verdict, passed, refused, check}
+use Rattle.net.specs.Query.{Location, found, no-net, locate}
+use Rattle.refusal.specs.Outcome.{Outcome, accepted, not-net}
+use Rattle.refusal.proofs.First.{first-none, first-passes, accepted-refused}
+use Rattle.plan.specs.declared.pair.Plan.{Plan}
+use Rattle.plan.specs.declared.pair.Shift.{Shift}
+use Rattle.plan.specs.Pair.{generators, loaded}
+use Rattle.stratify.specs.Answers.{of-verdict, checking, of-location, querying}
+use Rattle.stratify.specs.Theorem.{Level, Cell}
+use Rattle.stratify.proofs.Tests.{level-known, cell-within}
+
+-- ---- past the tests
+
+pub querying-locate : (P : Plan) (s : Shift) (level m a c r k : ℕ) → Level level → Cell level m a k c r
+    → querying P s level m a c r k ≡ of-location m a (locate (generators P) (shift 2 (s .x) (s .y)) m a k c r)
+querying-locate P s level m a c r k known cell =
+    let after = of-location m a (locate (generators P) (shift 2 (s .x) (s .y)) m a k c r) in
+    first-passes after 2 _ (level-known level (known .positive) (known .known))
+    ∙ first-passes after 4 _ (le-ltb level m (cell .size))
+    ∙ first-passes after 5 _ (le-ltb m a (cell .wide))
+    ∙ first-passes after 6 _ (cell-within m a c r (cell .column) (cell .row))
+    ∙ first-passes after 7 [] (lt-leb (2 ^ (32 - m)) k (cell .block))
+    ∙ first-none after
+
+pub checking-check : (words : List ℕ) (level : ℕ) → length words ≡ 64 → Level level
+    → checking words level ≡ of-verdict (check (generators (loaded words)) level)
+checking-check words level long known =
+    let after = of-verdict (check (generators (loaded words)) level) in
+    first-passes after 1 _ (ap not (eq-eqb (length words) 64 long))
+    ∙ first-passes after 2 [] (level-known level (known .positive) (known .known))
+    ∙ first-none after
+
+-- ---- an outcome tells the verdict and the location
+
+accepted-passed : (v : Verdict) → of-verdict v ≡ accepted tt → v ≡ passed
+accepted-passed passed e = refl
+accepted-passed (refused m a j) e = absurd (accepted-refused (sym e))
+
+not-net-refused : (v : Verdict) (m a j : ℕ) → of-verdict v ≡ not-net m a j → v ≡ refused m a j
+not-net-refused passed m a j e = absurd (accepted-refused e)
+not-net-refused (refused n d i) m a j e = cc
+
+accepted-found : (m a : ℕ) (l : Location) (i : ℕ) → of-location m a l ≡ accepted i → l ≡ found i
+accepted-found m a (found n) i e = cc
+accepted-found m a (no-net j) i e = absurd (accepted-refused (sym e))
+
+not-net-no-net : (m a : ℕ) (l : Location) (j : ℕ) → of-location m a l ≡ not-net m a j → l ≡ no-net j
+not-net-no-net m a (found n) j e = absurd (accepted-refused e)
+not-net-no-net m a (no-net i) j e = cc
+
+module _ {o : Outcome Unit} {v : Verdict} (is : o ≡ of-verdict v) where
+  pub verdict-accepted : (o ≡ accepted tt) ↔ (v ≡ passed)
+  verdict-accepted = (λ e. accepted-passed v (sym is ∙ e), λ e. is ∙ ap of-verdict e)
+
+  pub verdict-not-net : (m a j : ℕ) → (o ≡ not-net m a j) ↔ (v ≡ refused m a j)
+  verdict-not-net m a j = (λ e. not-net-refused v m a j (sym is ∙ e), λ e. is ∙ ap of-verdict e)
+
+module _ {o : Outcome ℕ} (m a : ℕ) {l : Location} (is : o ≡ of-location m a l) where
+  pub location-accepted : (i : ℕ) → (o ≡ accepted i) ↔ (l ≡ found i)
+  location-accepted i = (λ e. accepted-found m a l i (sym is ∙ e), λ e. is ∙ ap (of-location m a) e)
+
+  pub location-not-net : (j : ℕ) → (o ≡ not-net m a j) ↔ (l ≡ no-net j)
+  location-not-net j = (λ e. not-net-no-net m a l j (sym is ∙ e), λ e. is ∙ ap (of-location m a) e)

@@ -1,0 +1,224 @@
+-- One term of `Theorems`: demand 3 from the theorems of net. Assumes nothing.
+use mathlib.Core.Path.{_≡_, refl, sym, ap, ap₂, _∙_, subst}
+use mathlib.Core.Logic.{_≢_, _↔_}
+use mathlib.Core.Bool.{Bool, true, false, not, _||_, true≢false}
+use mathlib.Core.List.{List}
+use Prim.Native.Nat.{ℕ, suc, _+_, _-_, _*_, _%_, _^_, _≤_, _<_, min}
+use native.Mathlib.Nat.{pow-zero}
+use native.Mathlib.Omega.{arith}
+use borrow.Author.Tests.{ltb-false, not-false, eqb-true}
+use lib.Bits.{bitXor}
+use lib.Dec.{eqb, ltb}
+use lib.ListN.{length, take, drop}
+use lib.Pow.{pow-pos}
+use Rattle.digits.specs.Digits.{minus}
+use Rattle.digits.proofs.Two.{one-lt-two, minus-two}
+use Rattle.linear.specs.Unique.{Only, One}
+use Rattle.linear.proofs.Prime.{two}
+use Rattle.net.specs.Generators.{Below, Valid}
+use Rattle.net.specs.Sequence.{Sequence, column, row, VisitIn}
+use Rattle.net.specs.Finish.{Finish, plain, shift, Lawful}
+use Rattle.net.specs.Shape.{Shape, determinant, Passes}
+use Rattle.net.specs.Check.{check, passed, refused}
+use Rattle.net.specs.Query.{found, locate}
+use Rattle.net.specs.Net.{Net, StandardMatrices}
+use Rattle.net.specs.Answers.{Located, Checked as NetChecked}
+use Rattle.net.specs.Run.{Visit, visit, visits, run, hits}
+use Rattle.net.specs.Walk.{Walk, answers}
+use Rattle.net.specs.Standard.{standard}
+use Rattle.net.proofs.Below.{below-take, below-drop}
+use Rattle.net.proofs.Interval.{block-lt}
+use Rattle.net.proofs.Finish.{shift-lawful}
+use Rattle.net.proofs.Check.{nonzero}
+use Rattle.net.proofs.Query.{locate-found}
+use Rattle.net.proofs.Run.{take-each}
+use Rattle.net.proofs.Theorem as net
+use Rattle.refusal.specs.Outcome.{accepted, not-net}
+use Rattle.refusal.proofs.First.{first-accepted}
+use Rattle.plan.specs.declared.pair.Plan.{Plan}
+use Rattle.plan.specs.declared.pair.Shift.{Shift}
+use Rattle.plan.specs.Pair.{generators, sequence, standard-pair, largest-level, loaded}
+use Rattle.plan.specs.Fill.{filling, filled}
+use Rattle.plan.specs.Walk.{last-index, opening}
+use Rattle.plan.specs.Lists.{pointed, held, told}
+use Rattle.plan.proofs.Loading.{loaded-accepted}
+use Rattle.plan.proofs.Lists.{filled-visits, opened, steps, walk-visits}
+use Rattle.stratify.specs.Answers.{of-verdict, of-location, checking, querying, unknown-level}
+use Rattle.stratify.specs.Theorem.{Words, Level, Cell, Related, Covered, Queried, Checked, Lists, StandardPair, Theorems}
+use Rattle.stratify.proofs.Outcomes.{querying-locate, checking-check, verdict-accepted, verdict-not-net, location-accepted, location-not-net}
+
+lawful : (s : Shift) → Words s → Lawful 2 32 (shift 2 (s .x) (s .y))
+lawful s words = record { x = shift-lawful one-lt-two 32 (s .x) (words .x); y = shift-lawful one-lt-two 32 (s .y) (words .y) }
+
+-- ---- 1, 2: a plan that passes
+
+module _ {P : Plan} (valid : Valid (generators P)) {M : ℕ} (fits : M ≤ largest-level) (passes : Passes (generators P) M) where
+  N : Net (generators P) M
+  N = net.theorems .net valid two M fits passes
+
+  module _ (s : Shift) (words : Words s) (m a k c r : ℕ) (cell : Cell M m a k c r) where
+    abbrev S : Sequence
+    S = sequence P s
+
+    one-visit : One (VisitIn S m a k c r)
+    one-visit = (_, N .stratified m a (cell .size) (cell .wide) .one-visit (shift 2 (s .x) (s .y)) (lawful s words) k c r (cell .column) (cell .row))
+
+    -- the query's answer, for any level that admits the cell
+    answered : (i : ℕ) → Only (VisitIn S m a k c r) i → (level : ℕ) → Level level → m ≤ level → querying P s level m a c r k ≡ accepted i
+    answered i only level known size =
+        let own : Cell level m a k c r = record { size = size; wide = cell .wide; column = cell .column; row = cell .row; block = cell .block } in
+        let odd = nonzero (generators P) M passes m a (cell .size) (cell .wide) in
+        querying-locate P s level m a c r k known own
+        ∙ ap (of-location m a) (locate-found (generators P) (shift 2 (s .x) (s .y)) m a k c r i odd only)
+
+    relation : (p : ℕ) × Related P s m a k c r p
+    relation =
+        let (p, related) = N .stratified m a (cell .size) (cell .wide) .relation (s .x) (s .y) (words .x) (words .y) k c r (cell .column) (cell .row) in (
+          p,
+          record {
+            plain-visit = subst (λ (u : ℕ). Only (VisitIn (plain (generators P)) m a 0 u (bitXor r (row S (m - a) (k * 2 ^ m)))) p)
+                (minus-two c (column S a (k * 2 ^ m)))
+                (subst (λ (v : ℕ). Only (VisitIn (plain (generators P)) m a 0 (minus 2 c (column S a (k * 2 ^ m))) v) p) (minus-two r (row S (m - a) (k * 2 ^ m))) (related .plain-visit));
+            block-visit = related .block-visit;
+            answer = answered (k * 2 ^ m + p) (related .block-visit);
+          },
+        )
+
+    one-hit : hits S m a c r (run S m k) ≡ 1
+    one-hit = N .one-hit (shift 2 (s .x) (s .y)) (lawful s words) m a k c r (cell .size) (cell .wide) (cell .column) (cell .row)
+
+    -- in a list of visits that begins with the block's first and goes through the block
+    hit-in : (l : List Visit) (n : ℕ) → l ≡ visits S (k * 2 ^ m) n → 2 ^ m ≤ n → hits S m a c r (take (2 ^ m) l) ≡ 1
+    hit-in l n e long =
+        let whole : min (2 ^ m) n ≡ 2 ^ m = omega arith in
+        ap (λ (v : List Visit). hits S m a c r (take (2 ^ m) v)) e
+        ∙ ap (hits S m a c r) (take-each _ (k * 2 ^ m) n (2 ^ m) ∙ ap (visits S (k * 2 ^ m)) whole) ∙ one-hit
+
+    first-index : k * 2 ^ m ≤ last-index
+    first-index =
+        let size = cell .size in
+        let h = block-lt one-lt-two 32 m k 0 (omega arith) (cell .block) (pow-pos m) in
+        omega arith
+
+    walk-hit : (count n : ℕ) (w : Walk) → opening (k * 2 ^ m) count ≡ accepted w → 2 ^ m ≤ count → 2 ^ m ≤ n
+        → hits S m a c r (take (2 ^ m) (told (answers (visit S) last-index n w))) ≡ 1
+    walk-hit count n w e long many = hit-in _ (min n count) (walk-visits S (k * 2 ^ m) count w e first-index n) (omega arith)
+
+  covered : Covered P M
+  covered = record {
+    one-visit = one-visit;
+    relation = relation;
+    points = one-hit;
+    fills = λ s words m a k c r cell xs ys e long. hit-in s words m a k c r cell _ (length xs) (filled-visits (sequence P s) (k * 2 ^ m) xs ys e) long;
+    walks = walk-hit;
+  }
+
+-- ---- 3: the query
+
+module _ {P : Plan} (valid : Valid (generators P)) {s : Shift} (words : Words s) {level m a c r k : ℕ} (known : Level level)
+    (cell : Cell level m a k c r) where
+  shape : Shape (generators P) m a
+  shape = let size = cell .size in let top = known .known in record { valid = valid; wide = cell .wide; fits = omega arith }
+
+  L : Located (generators P) (shift 2 (s .x) (s .y)) m a k c r
+  L = net.theorems .located shape two (lawful s words) k c r (cell .column) (cell .row)
+
+  is : querying P s level m a c r k ≡ of-location m a (locate (generators P) (shift 2 (s .x) (s .y)) m a k c r)
+  is = querying-locate P s level m a c r k known cell
+
+  queried : Queried P s level m a c r k
+  queried = record {
+    answers-iff = (
+      λ (i, e). L .found-iff i .0 (location-accepted m a is i .0 e) .0,
+      λ odd.
+          let only = net.theorems .net-test shape two .stratified-iff .0 odd .one-visit _ (lawful s words) k c r (cell .column) (cell .row) in
+          (_, location-accepted m a is _ .1 (L .found-iff _ .1 (odd, only))),
+    );
+    answer-iff = λ i. (λ e. L .found-iff i .0 (location-accepted m a is i .0 e), λ h. location-accepted m a is i .1 (L .found-iff i .1 h));
+    refusal-iff = λ j. (λ e. L .no-net-iff j .0 (location-not-net m a is j .0 e), λ h. location-not-net m a is j .1 (L .no-net-iff j .1 h));
+  }
+
+size-zero : {P : Plan} → Valid (generators P) → {s : Shift} → Words s → {level : ℕ} → Level level → {k : ℕ} → k < 2 ^ 32
+    → querying P s level 0 0 0 0 k ≡ accepted k
+size-zero {P} valid {s} words {level} known {k} h =
+    let one-cell : 0 < 2 ^ 0 = omega arith in
+    let cell : Cell level 0 0 k 0 0 = record { size = omega arith; wide = omega arith; column = one-cell; row = one-cell; block = h } in
+    location-accepted 0 0 (querying-locate P s level 0 0 0 0 k known cell) k .1 (net.theorems .size-zero valid (lawful s words) k)
+
+-- ---- 4: the check
+
+valid-loaded : (words : List ℕ) → Below (2 ^ 32) words → length words ≡ 64 → Valid (generators (loaded words))
+valid-loaded words below long =
+    subst (λ (P : Plan). Valid (generators P)) (sym (loaded-accepted words long))
+    (record { base = one-lt-two; X-fits = below-take (2 ^ 32) 32 words below; Y-fits = below-drop (2 ^ 32) 32 words below })
+
+checked : (words : List ℕ) → Below (2 ^ 32) words → length words ≡ 64 → {level : ℕ} → Level level → Checked words level
+checked words below long {level} known = record {
+  accepted-iff = (λ e. C .passed-iff .0 (verdict-accepted is .0 e), λ p. verdict-accepted is .1 (C .passed-iff .1 p));
+  even-iff = (λ ne. C .zero-iff .0 (λ e. ne (verdict-accepted is .1 e)), λ h e. C .zero-iff .1 h (verdict-accepted is .0 e));
+  crowded-iff = (λ ne. C .crowded-iff .0 (λ e. ne (verdict-accepted is .1 e)), λ h e. C .crowded-iff .1 h (verdict-accepted is .0 e));
+  refusal-iff = λ m a j. (λ e. C .refused-iff m a j .0 (verdict-not-net is m a j .0 e), λ h. verdict-not-net is m a j .1 (C .refused-iff m a j .1 h));
+  refusal-even-iff = λ m a j. (λ e. C .refused-zero-iff m a j .0 (verdict-not-net is m a j .0 e), λ h. verdict-not-net is m a j .1 (C .refused-zero-iff m a j .1 h));
+}
+  where
+    C : NetChecked (generators (loaded words)) level
+    C = net.theorems .checked (valid-loaded words below long) two level (known .known)
+
+    is : checking words level ≡ of-verdict (check (generators (loaded words)) level)
+    is = checking-check words level long known
+
+-- ---- 5: the lists
+
+lists : (P : Plan) (s : Shift) → Lists P s
+lists P s = record {
+  points = λ start n. refl;
+  fills = filled-visits (sequence P s);
+  opened = opened;
+  walked = steps (sequence P s);
+  walks = walk-visits (sequence P s);
+  walked-by-hand = net.theorems .walked-by-hand _ last-index;
+  run-from = λ m k. net.theorems .runs (sequence P s) m k .part;
+}
+
+-- ---- words that the check accepts
+
+accepted-covered : (words : List ℕ) → Below (2 ^ 32) words → (M : ℕ) → checking words M ≡ accepted tt → Covered (loaded words) M
+accepted-covered words below M e =
+    let (one, rest) = first-accepted _ 1 _ (not (eqb (length words) 64)) e in
+    let (second, last) = first-accepted _ 2 _ (unknown-level M .holds) rest in
+    let long = eqb-true (length words) 64 (not-false (eqb (length words) 64) one) in
+    let known = level-of M second in
+    covered (valid-loaded words below long) (known .known) (checked words below long known .accepted-iff .0 e)
+  where
+    neither : (s t : Bool) → (s || t) ≡ false → (s ≡ false) × (t ≡ false)
+    neither true t h = absurd (true≢false h)
+    neither false t h = (refl, h)
+
+    level-of : (level : ℕ) → unknown-level level .holds ≡ false → Level level
+    level-of level h =
+        let (low, high) = neither (ltb level 1) (ltb largest-level level) h in
+        record { positive = ltb-false level 1 low; known = ltb-false largest-level level high }
+
+-- ---- the standard pair
+
+standard-pair-theorem : StandardPair
+standard-pair-theorem =
+    let T = net.theorems .standard-matrices one-lt-two 32 32 (omega arith) in
+    record {
+      x = λ c h. let e : 32 - suc c ≡ 31 - c = omega arith in T .identity c h ∙ ap (λ (n : ℕ). 2 ^ n) e;
+      y = λ r c h l. T .pascal r c h l;
+      valid = T .valid;
+      passes = T .passes;
+      covered = covered (T .valid) (omega arith) (T .passes);
+    }
+
+pub theorems : Theorems
+theorems = record {
+  covered = covered;
+  queried = queried;
+  size-zero = size-zero;
+  checked = checked;
+  accepted-covered = accepted-covered;
+  lists = lists;
+  standard = standard-pair-theorem;
+}

@@ -1,0 +1,137 @@
+-- Demand 3 of 01, about the definitions that the contracts cite: `sequence`, `filled`, `step`, `checking`, `querying`. First the
+-- statements, as records; at the end `Theorems`, the whole list with the assumptions of each, of which proofs/Theorem gives one term.
+-- Everywhere S is `sequence P s`: the points of the plan P (01: the pair) under the shift s (01: the scramble).
+use mathlib.Core.Path.{_≡_}
+use mathlib.Core.Logic.{_≢_, _↔_}
+use mathlib.Core.List.{List}
+use Prim.Native.Nat.{ℕ, _+_, _-_, _*_, _%_, _^_, _≤_, _<_, min}
+use lib.Bits.{bitXor}
+use lib.ListN.{length, getD, take, drop}
+use Rattle.linear.specs.Unique.{Only, One}
+use Rattle.net.specs.Generators.{Below, Valid, entry}
+use Rattle.net.specs.Sequence.{column, row, VisitIn, Crowded, Least}
+use Rattle.net.specs.Finish.{plain}
+use Rattle.net.specs.Shape.{determinant, Passes}
+use Rattle.net.specs.Check.{First, FirstZero}
+use Rattle.net.specs.Run.{visit, visits, run, hits}
+use Rattle.net.specs.Standard.{binomial}
+use Rattle.net.specs.Walk.{Walk, answers}
+use Rattle.net.specs.Steps.{Walked, WalkedByHand}
+use Rattle.refusal.specs.Outcome.{accepted, not-net}
+use Rattle.plan.specs.declared.pair.Plan.{Plan}
+use Rattle.plan.specs.declared.pair.Shift.{Shift}
+use Rattle.plan.specs.Pair.{generators, sequence, standard-pair, largest-level, loaded}
+use Rattle.plan.specs.Fill.{filling, filled}
+use Rattle.plan.specs.Walk.{last-index, opening}
+use Rattle.plan.specs.Lists.{pointed, held, told}
+use Rattle.stratify.specs.Answers.{checking, querying}
+
+-- ---- what the code's types hold
+
+-- a shift of words
+pub record Words (s : Shift) : Type 0 where
+  pub x : s .x < 2 ^ 32
+  pub y : s .y < 2 ^ 32
+
+-- a level that 2 lets through
+pub record Level (level : ℕ) : Type 0 where
+  pub positive : 1 ≤ level
+  pub known : level ≤ largest-level
+
+-- column c and row r are a cell of the shape (m, a), of a size within M, and k is a block: what 4, 5, 6 and 7 let through
+pub record Cell (M m a k c r : ℕ) : Type 0 where
+  pub size : m ≤ M
+  pub wide : a ≤ m
+  pub column : c < 2 ^ a
+  pub row : r < 2 ^ (m - a)
+  pub block : k < 2 ^ (32 - m)
+
+-- ---- 1, 2: one visit in every cell of every shape, and its relation to the plain run
+
+-- with u and v the column and row of the block's first visit: p is the plain run's index for column c exclusive or u and row r
+-- exclusive or v, the block's index for c and r is its first plus p, and that is what the query answers
+pub record Related (P : Plan) (s : Shift) (m a k c r p : ℕ) : Type 0 where
+  pub plain-visit : Only (VisitIn (plain (generators P)) m a 0
+      (bitXor c (column (sequence P s) a (k * 2 ^ m))) (bitXor r (row (sequence P s) (m - a) (k * 2 ^ m)))) p
+  pub block-visit : Only (VisitIn (sequence P s) m a k c r) (k * 2 ^ m + p)
+  pub answer : (level : ℕ) → Level level → m ≤ level → querying P s level m a c r k ≡ accepted (k * 2 ^ m + p)
+
+-- what passing level M is worth: in every block, cell and shape, under every shift, exactly one visit, its relation to the plain run,
+-- and one visit in what point calls, a fill and the steps of a walk give for the whole block
+pub record Covered (P : Plan) (M : ℕ) : Type 0 where
+  pub one-visit : (s : Shift) → Words s → (m a k c r : ℕ) → Cell M m a k c r → One (VisitIn (sequence P s) m a k c r)
+  pub relation : (s : Shift) → Words s → (m a k c r : ℕ) → Cell M m a k c r → (p : ℕ) × Related P s m a k c r p
+  pub points : (s : Shift) → Words s → (m a k c r : ℕ) → Cell M m a k c r
+      → hits (sequence P s) m a c r (pointed (sequence P s) (k * 2 ^ m) (2 ^ m)) ≡ 1
+  pub fills : (s : Shift) → Words s → (m a k c r : ℕ) → Cell M m a k c r → (xs ys : List ℕ) → filling (k * 2 ^ m) xs ys ≡ accepted tt
+      → 2 ^ m ≤ length xs → hits (sequence P s) m a c r (take (2 ^ m) (held (k * 2 ^ m) (filled (sequence P s) (k * 2 ^ m) xs ys))) ≡ 1
+  pub walks : (s : Shift) → Words s → (m a k c r : ℕ) → Cell M m a k c r → (count n : ℕ) (w : Walk) → opening (k * 2 ^ m) count ≡ accepted w
+      → 2 ^ m ≤ count → 2 ^ m ≤ n
+      → hits (sequence P s) m a c r (take (2 ^ m) (told (answers (visit (sequence P s)) last-index n w))) ≡ 1
+
+-- ---- 3: the query of any plan, checked or not
+
+-- it answers exactly where the determinant of its own shape is odd, and then with the only index of the block in the cell; else it
+-- refuses under 3 with that shape and its least j
+pub record Queried (P : Plan) (s : Shift) (level m a c r k : ℕ) : Type 0 where
+  pub answers-iff : ((i : ℕ) × (querying P s level m a c r k ≡ accepted i)) ↔ (determinant (generators P) m a ≢ 0)
+  pub answer-iff : (i : ℕ) → (querying P s level m a c r k ≡ accepted i)
+      ↔ ((determinant (generators P) m a ≢ 0) × Only (VisitIn (sequence P s) m a k c r) i)
+  pub refusal-iff : (j : ℕ) → (querying P s level m a c r k ≡ not-net m a j)
+      ↔ ((determinant (generators P) m a ≡ 0) × Least (plain (generators P)) m a j)
+
+-- ---- 4: the check
+
+-- It accepts exactly what passes. It refuses exactly where a determinant of a size within the level is even, exactly where a cell of
+-- such a size holds two visits of the plain run. The shape that it names is the first in both readings, and j is the least.
+pub record Checked (words : List ℕ) (level : ℕ) : Type 0 where
+  pub accepted-iff : (checking words level ≡ accepted tt) ↔ Passes (generators (loaded words)) level
+  pub even-iff : (checking words level ≢ accepted tt)
+      ↔ ((m : ℕ) × (a : ℕ) × (0 < m) × (m ≤ level) × (a ≤ m) × (determinant (generators (loaded words)) m a ≡ 0))
+  pub crowded-iff : (checking words level ≢ accepted tt)
+      ↔ ((m : ℕ) × (a : ℕ) × (m ≤ level) × (a ≤ m) × Crowded (plain (generators (loaded words))) m a)
+  pub refusal-iff : (m a j : ℕ) → (checking words level ≡ not-net m a j)
+      ↔ (First (generators (loaded words)) level m a × Least (plain (generators (loaded words))) m a j)
+  pub refusal-even-iff : (m a j : ℕ) → (checking words level ≡ not-net m a j)
+      ↔ (FirstZero (generators (loaded words)) level m a × Least (plain (generators (loaded words))) m a j)
+
+-- ---- 5: points, fills and walks give the run
+
+-- Each gives the visits of consecutive indexes; for a walk it is ONE claim about the list of n steps, steps after the end included.
+-- And consecutive visits from index p of a block on are the run from there, as far as they go into the block.
+pub record Lists (P : Plan) (s : Shift) : Type 0 where
+  pub points : (start n : ℕ) → pointed (sequence P s) start n ≡ visits (sequence P s) start n
+  pub fills : (start : ℕ) (xs ys : List ℕ) → filling start xs ys ≡ accepted tt
+      → held start (filled (sequence P s) start xs ys) ≡ visits (sequence P s) start (length xs)
+  pub opened : (start count : ℕ) (w : Walk) → opening start count ≡ accepted w → w ≡ record { next = start; left = count }
+  pub walked : (start count : ℕ) (w : Walk) → opening start count ≡ accepted w → start ≤ last-index
+      → (n : ℕ) → Walked (visit (sequence P s)) last-index start count n
+  pub walks : (start count : ℕ) (w : Walk) → opening start count ≡ accepted w → start ≤ last-index
+      → (n : ℕ) → told (answers (visit (sequence P s)) last-index n w) ≡ visits (sequence P s) start (min n count)
+  pub walked-by-hand : (w : Walk) (n : ℕ) → WalkedByHand (visit (sequence P s)) last-index w n
+  pub run-from : (m k p n : ℕ) → take (2 ^ m - p) (visits (sequence P s) (k * 2 ^ m + p) n) ≡ take n (drop p (run (sequence P s) m k))
+
+-- ---- the standard pair
+
+-- X column c is 2^(31 - c), Y has a one in row r, column c exactly when the binomial is odd, and the pair passes level 32
+pub record StandardPair : Type 0 where
+  pub x : (c : ℕ) → c < 32 → getD (standard-pair .x) c 0 ≡ 2 ^ (31 - c)
+  pub y : (r c : ℕ) → r < 32 → c < 32 → entry 2 32 (standard-pair .y) r c ≡ binomial c r % 2
+  pub valid : Valid (generators standard-pair)
+  pub passes : Passes (generators standard-pair) largest-level
+  pub covered : Covered standard-pair largest-level
+
+pub record Theorems : Type 0 where
+  -- of a plan whose columns are words (as the code's are)
+  pub covered : {P : Plan} → Valid (generators P) → {M : ℕ} → M ≤ largest-level → Passes (generators P) M → Covered P M
+  pub queried : {P : Plan} → Valid (generators P) → {s : Shift} → Words s
+      → {level m a c r k : ℕ} → Level level → Cell level m a k c r → Queried P s level m a c r k
+  -- (01: for m 0 the answer is the number of the block)
+  pub size-zero : {P : Plan} → Valid (generators P) → {s : Shift} → Words s → {level : ℕ} → Level level
+      → {k : ℕ} → k < 2 ^ 32 → querying P s level 0 0 0 0 k ≡ accepted k
+  -- of 64 words
+  pub checked : (words : List ℕ) → Below (2 ^ 32) words → length words ≡ 64 → {level : ℕ} → Level level → Checked words level
+  pub accepted-covered : (words : List ℕ) → Below (2 ^ 32) words → (M : ℕ) → checking words M ≡ accepted tt → Covered (loaded words) M
+  -- of any plan and shift
+  pub lists : (P : Plan) (s : Shift) → Lists P s
+  pub standard : StandardPair
