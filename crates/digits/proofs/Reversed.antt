@@ -1,7 +1,7 @@
 -- Digits in the opposite order: each law is an equation at every place. Assumes nothing.
 use mathlib.Core.Path.{_≡_, sym, ap, ap₂, _∙_}
 use Prim.Native.Nat.{ℕ, zero, suc, _+_, _-_, _*_, _/_, _%_, _^_, _≤_, _<_}
-use native.Mathlib.Nat.{mod-mod, mod-lt, pow-suc, pow-succ'}
+use native.Mathlib.Nat.{mod-mod, mod-lt, pow-suc, pow-succ', div-add-mod', le-refl}
 use native.Mathlib.Decide.{decLt}
 use native.Mathlib.Omega.{arith}
 use lib.Arith.{digits-div, digits-lt}
@@ -61,6 +61,13 @@ module _ {b : ℕ} (big : 1 < b) where
       let e : p ≡ 0 * b ^ m + p = omega arith in
       ap (λ (x : ℕ). x / b ^ n) (ap (reversed b (m + n)) e ∙ reversed-join m n 0 p h)
       ∙ digits-div (reversed b m p) (reversed-lt n 0)
+
+  -- the m lowest digits come first, those above them last
+  pub reversed-parts : (m n i : ℕ) → reversed b (m + n) i ≡ reversed b m i * b ^ n + reversed b n (i / b ^ m)
+  reversed-parts m n i =
+      ap (reversed b (m + n)) (sym (div-add-mod' i (b ^ m)))
+      ∙ reversed-join m n (i / b ^ m) (i % b ^ m) (mod-lt i (pow-pos big m))
+      ∙ ap (λ (x : ℕ). x * b ^ n + reversed b n (i / b ^ m)) (reversed-mod m m i (le-refl m))
 
   -- one digit more: the new highest of i comes last, the lowest of i comes first
   pub reversed-more : (n i : ℕ) → reversed b (suc n) i ≡ reversed b n i * b + digit b n i

@@ -1,6 +1,6 @@
 -- The columns of the standard matrices: entry by entry as in 01, each from the one before, and the product with the first of them.
 -- Assumes nothing.
-use mathlib.Core.Path.{_≡_, refl, sym, ap, ap₂, _∙_}
+use mathlib.Core.Path.{_≡_, refl, sym, ap, ap₂, _∙_, subst}
 use mathlib.Core.Logic.{_⊎_, inl, inr, _≢_}
 use mathlib.Core.List.{List, _∷_, map}
 use Prim.Native.Nat.{ℕ, zero, suc, _+_, _-_, _*_, _/_, _%_, _^_, _≤_, _<_}
@@ -15,13 +15,14 @@ use Rattle.digits.specs.Digits.{digit, reversed, plus}
 use Rattle.digits.proofs.Digit.{pow-pos, pow-one, pow-lt, pow-div, digit-suc, digit-high, digit-zero, digit-number, number-lt}
 use Rattle.digits.proofs.Digit.{ext-below, mod-pow-suc}
 use Rattle.digits.proofs.Arithmetic.{digit-plus, plus-lt, plus-split, times-pow}
-use Rattle.digits.proofs.Reversed.{reversed-lt, reversed-zero, reversed-more, reversed-suc, reversed-mod}
+use Rattle.digits.proofs.Reversed.{reversed-lt, reversed-zero, reversed-more, reversed-suc, reversed-mod, reversed-twice}
 use Rattle.linear.proofs.Cases.{lt-or-ge}
 use Rattle.net.specs.Generators.{Generators, Valid, product}
 use Rattle.net.specs.Run.{range, indicator}
+use Rattle.net.specs.Elimination.{Additive}
 use Rattle.net.specs.Standard.{binomial, identity-column, pascal-column, standard}
 use Rattle.net.proofs.Below.{below-map}
-use Rattle.net.proofs.Product.{product-lt}
+use Rattle.net.proofs.Product.{product-lt, product-map}
 use Rattle.net.proofs.Standard.{iterate, add-down, iterated, x₀-lt, horner, move-down-additive}
 
 -- an entry of the identity
@@ -200,3 +201,19 @@ module _ {b : ℕ} (big : 1 < b) where
       ap (λ (C : List ℕ). product b C i) (ap (λ (G : Generators). G .X) (standard-is big (suc Q) n))
       ∙ ap (λ (x : ℕ). product b (iterate (λ x. x / b) n x) i) (ap (λ (x : ℕ). x / b) (pow-suc b Q) ∙ mul-div-cancel (b ^ Q) (omega arith))
       ∙ move-down-product Q n i ∙ reversed-mod big n (suc Q) i h
+
+-- ---- an additive map is known from the columns of the identity
+
+module _ {b : ℕ} {L : ℕ → ℕ} (A : Additive b L) (R n w : ℕ) (h : R ≤ n) (l : w < b ^ R) where
+  -- on numbers of R digits it is the product with its images of these columns
+  pub additive-product : L w ≡ product b (map L (standard b R n .X)) (reversed b R w)
+  additive-product =
+      ap L (sym (identity-product (A .base) R n (reversed b R w) h ∙ reversed-twice (A .base) R w l))
+      ∙ product-map A (standard b R n .X) (reversed b R w)
+
+  -- and Pascal's triangle, where it sends each of them to the triangle's: a test that computes
+  pub additive-pascal : map L (iterated b R n .X) ≡ iterated b R n .Y → L w ≡ product b (standard b R n .Y) (reversed b R w)
+  additive-pascal test =
+      additive-product
+      ∙ ap (λ (C : List ℕ). product b C (reversed b R w))
+      (subst (λ (G : Generators). map L (G .X) ≡ G .Y) (sym (standard-is (A .base) R n)) test)

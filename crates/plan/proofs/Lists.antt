@@ -15,7 +15,8 @@ use Rattle.net.proofs.Walk.{walked}
 use Rattle.refusal.specs.Outcome.{Outcome, accepted, refused, first}
 use Rattle.refusal.proofs.First.{first-none, first-accepted}
 use Rattle.plan.specs.Fill.{Buffers, filling, filled}
-use Rattle.plan.specs.Walk.{last-index, opening}
+use Rattle.plan.specs.Range.{last-index}
+use Rattle.plan.specs.Walk.{opening}
 use Rattle.plan.specs.Lists.{paired, held, told}
 use Rattle.plan.proofs.Filling.{written}
 

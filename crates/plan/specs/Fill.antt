@@ -1,21 +1,20 @@
 -- What a fill answers, and what it leaves in the two buffers.
 use mathlib.Core.Bool.{not}
 use mathlib.Core.List.{List, [], _∷_, map}
-use Prim.Native.Nat.{ℕ, _+_, _^_}
-use lib.Dec.{eqb, ltb}
+use Prim.Native.Nat.{ℕ}
+use lib.Dec.{eqb}
 use lib.ListN.{length}
 use Rattle.net.specs.Sequence.{Sequence}
 use Rattle.net.specs.Run.{range}
-use Rattle.refusal.specs.Outcome.{Outcome, accepted, first, granted}
+use Rattle.plan.specs.Range.{past-last}
+use Rattle.refusal.specs.Outcome.{Outcome, accepted, Test, first, granted}
 
--- refused with 8 where the buffers differ in length, with 9 where the indexes would go past the last
+-- 8: buffers differ in length
+abbrev pub lengths-differ : List ℕ → List ℕ → Test
+lengths-differ xs ys = record { number = 8; holds = not (eqb (length xs) (length ys)) }
+
 abbrev pub filling : ℕ → List ℕ → List ℕ → Outcome Unit
-filling start xs ys =
-    first (
-    record { number = 8; holds = not (eqb (length xs) (length ys)) }
-    ∷ record { number = 9; holds = ltb (2 ^ 32) (start + length xs) }
-    ∷ []
-    ) (accepted tt)
+filling start xs ys = first (lengths-differ xs ys ∷ past-last start (length xs) ∷ []) (accepted tt)
 
 -- the content of the two buffers
 pub record Buffers : Type 0 where

@@ -1,3 +1,4 @@
+pub mod Range
 pub mod Pair
 pub mod Fill
 pub mod Walk

@@ -1,11 +1,11 @@
 -- The code's walks as those of net, and what opening one answers.
 use mathlib.Core.List.{List, [], _∷_}
-use Prim.Native.Nat.{ℕ, _+_, _^_}
-use lib.Dec.{ltb}
+use Prim.Native.Nat.{ℕ}
 use Rattle.net.specs.Run.{Visit}
 use Rattle.net.specs.Walk.{Walk, Answer, visited, ended, Stepped}
 use Rattle.refusal.specs.Outcome.{Outcome, accepted, first}
 use Rattle.refusal.specs.Refusal.{of-refusal}
+use Rattle.plan.specs.Range.{past-last}
 use Rattle.plan.specs.declared.walks.Walk.{Walk as WalkCode}
 use Rattle.plan.specs.declared.walks.Visit.{Visit as VisitCode}
 use Rattle.plan.specs.declared.walks.Step.{Step as StepCode}
@@ -13,10 +13,6 @@ use Rattle.plan.specs.declared.walks.Step.the-variants as step
 use Rattle.plan.specs.declared.walks.Stepped.{Stepped as SteppedCode}
 use Rattle.plan.specs.declared.walks.Opened.{Opened as OpenedCode}
 use Rattle.plan.specs.declared.walks.Opened.the-variants as opened
-
--- indexes have 32 bits
-abbrev pub last-index : ℕ
-last-index = 4294967295
 
 abbrev pub of-walk : WalkCode → Walk
 of-walk w = record { next = w .next; left = w .left }
@@ -35,6 +31,5 @@ abbrev pub of-opened : OpenedCode → Outcome Walk
 of-opened (opened.Open w) = accepted (of-walk w)
 of-opened (opened.Refused r) = of-refusal r
 
--- refused with 9 where start and count go past the last index
 abbrev pub opening : ℕ → ℕ → Outcome Walk
-opening start count = first (record { number = 9; holds = ltb (2 ^ 32) (start + count) } ∷ []) (accepted (record { next = start; left = count }))
+opening start count = first (past-last start count ∷ []) (accepted (record { next = start; left = count }))

@@ -9,13 +9,15 @@ ghost use Rattle.net.specs.Run.{range};
 ghost use Rattle.refusal.specs.Refusal.{of-judgement};
 ghost use Rattle.plan.specs.Pair.{sequence};
 ghost use Rattle.plan.specs.Fill.{filling, filled};
+use crate::Index;
 use crate::Plan;
 use crate::Shift;
+use crate::indexes::past_last;
 use refusal::Judgement;
 use refusal::Refusal;
 
 // Writes the points of the indexes from start on, as many as the buffers have room for. A refused call writes nothing.
-pub fn fill(plan: Plan, shift: Shift, start: u32, xs: &mut [u32], ys: &mut [u32]) -> Judgement
+pub fn fill(plan: Plan, shift: Shift, start: Index, xs: &mut [u32], ys: &mut [u32]) -> Judgement
     ensures answer { λ r. ⌜ of-judgement r ≡ filling start (now (xs .entry)) (now (ys .entry)) ⌝ }
     ensures first { λ r. ⌜ now (xs .exit) ≡ filled (sequence plan shift) start (now (xs .entry)) (now (ys .entry)) .x ⌝ }
     ensures second { λ r. ⌜ now (ys .exit) ≡ filled (sequence plan shift) start (now (xs .entry)) (now (ys .entry)) .y ⌝ }
@@ -24,10 +26,7 @@ pub fn fill(plan: Plan, shift: Shift, start: u32, xs: &mut [u32], ys: &mut [u32]
     if n != ys.len() {
         return Judgement::Refused(Refusal::BufferLengths);
     }
-    if n > 4294967296 {
-        return Judgement::Refused(Refusal::IndexRange);
-    }
-    if start as usize + n > 4294967296 {
+    if past_last(start, n as u64) {
         return Judgement::Refused(Refusal::IndexRange);
     }
     let x = plan.x;
@@ -38,13 +37,13 @@ pub fn fill(plan: Plan, shift: Shift, start: u32, xs: &mut [u32], ys: &mut [u32]
 }
 
 // One axis of a fill.
-fn coordinates(columns: [u32; 32], shift: u32, start: u32, out: &mut [u32])
+fn coordinates(columns: [u32; 32], shift: u32, start: Index, out: &mut [u32])
     requires { ⌜ start + length (now out) ≤ 2 ^ 32 ⌝ }
     ensures { λ _. ⌜ now (out .exit) ≡ map (λ (i : ℕ). plus 2 (product 2 columns i) shift) (range start (length (now (out .entry)))) ⌝ }
 {
     let mut k = 0;
     while k < out.len() {
-        out[k] = word::coordinate(columns, start + k as u32, shift);
+        out[k] = word::coordinate(columns, start + k as Index, shift);
         k += 1;
     }
 }

@@ -2,10 +2,12 @@
 // of two lent buffers, and walks. Every public function is total: no `requires`, no trap, each answer and each lent buffer
 // promised on all inputs.
 mod fills;
+mod indexes;
 mod pair;
 mod walks;
 
 pub use fills::fill;
+pub use indexes::Index;
 pub use pair::Loaded;
 pub use pair::Plan;
 pub use pair::Point;

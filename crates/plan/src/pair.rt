@@ -4,10 +4,9 @@ ghost use lib.ListN.{length};
 ghost use Rattle.net.specs.Sequence.{point};
 ghost use Rattle.refusal.specs.Refusal.{of-judgement};
 ghost use Rattle.plan.specs.Pair.{sequence, standard-pair, loading, loaded, of-point};
+use crate::Index;
 use refusal::Judgement;
 use refusal::Refusal;
-
-pub type Index = u32;
 
 // Two generator matrices by their columns: column c belongs to index bit c, and row 0 is the top bit of a column.
 pub struct Plan {
@@ -35,6 +34,16 @@ pub struct Loaded {
 impl Plan {
     pub const LARGEST_LEVEL: u32 = 32;
 
+    // Identity and Pascal's triangle modulo 2.
+    pub fn standard() -> Plan
+        ensures { λ r. ⌜ r ≡ standard-pair ⌝ }
+    {
+        Plan {
+            x: word::identity_columns(),
+            y: word::pascal_columns(),
+        }
+    }
+
     // The matrices that 64 words hold, the columns of X first.
     pub fn load(words: &[u32]) -> Loaded
         ensures answer { λ r. ⌜ of-judgement (r .answer) ≡ loading (now (words .entry)) ⌝ }
@@ -58,7 +67,7 @@ impl Plan {
     }
 
     // The point of an index: in each axis the product of the matrix with the index, shifted.
-    pub fn point(self, shift: Shift, index: u32) -> Point
+    pub fn point(self, shift: Shift, index: Index) -> Point
         ensures { λ r. ⌜ of-point r ≡ point (sequence self shift) index ⌝ }
     {
         let x = self.x;
@@ -66,6 +75,16 @@ impl Plan {
         Point {
             x: word::coordinate(x, index, shift.x),
             y: word::coordinate(y, index, shift.y),
+        }
+    }
+
+    // The same of the standard matrices, by the fast way.
+    pub fn standard_point(shift: Shift, index: Index) -> Point
+        ensures { λ r. ⌜ of-point r ≡ point (sequence standard-pair shift) index ⌝ }
+    {
+        Point {
+            x: word::standard_x(index, shift.x),
+            y: word::standard_y(index, shift.y),
         }
     }
 }

@@ -3,14 +3,18 @@ ghost use mathlib.Core.Path.{_≡_};
 ghost use Rattle.net.specs.Run.{visit};
 ghost use Rattle.net.specs.Walk.{step};
 ghost use Rattle.plan.specs.Pair.{sequence};
-ghost use Rattle.plan.specs.Walk.{last-index, opening, of-opened, of-walk, of-stepped};
+ghost use Rattle.plan.specs.Range.{last-index};
+ghost use Rattle.plan.specs.Walk.{opening, of-opened, of-walk, of-stepped};
+use crate::Index;
 use crate::Plan;
 use crate::Shift;
+use crate::indexes::LAST_INDEX;
+use crate::indexes::past_last;
 use refusal::Refusal;
 
 // The next index, and how many visits are left (01's word; the field: a cursor).
 pub struct Walk {
-    pub next: u32,
+    pub next: Index,
     pub left: u64,
 }
 
@@ -21,7 +25,7 @@ pub enum Opened {
 
 // An index with its point.
 pub struct Visit {
-    pub index: u32,
+    pub index: Index,
     pub x: u32,
     pub y: u32,
 }
@@ -38,13 +42,10 @@ pub struct Stepped {
 
 impl Walk {
     // A walk over count visits from start on.
-    pub fn open(start: u32, count: u64) -> Opened
+    pub fn open(start: Index, count: u64) -> Opened
         ensures { λ r. ⌜ of-opened r ≡ opening start count ⌝ }
     {
-        if count > 4294967296 {
-            return Opened::Refused(Refusal::IndexRange);
-        }
-        if start as u64 + count > 4294967296 {
+        if past_last(start, count) {
             return Opened::Refused(Refusal::IndexRange);
         }
         Opened::Open(Walk {
@@ -71,7 +72,7 @@ impl Walk {
             x: at.x,
             y: at.y,
         });
-        if next == 4294967295 {
+        if next == LAST_INDEX {
             return Stepped {
                 step: visited,
                 walk: Walk { next, left: 0 },

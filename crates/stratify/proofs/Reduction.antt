@@ -14,7 +14,7 @@ use Rattle.digits.proofs.Two.{one-lt-two, plus-two, minus-two}
 use Rattle.net.specs.Elimination.{Additive, reduce, solve}
 use Rattle.net.proofs.Additive.{of-minus, of-times, of-zero}
 use Rattle.net.proofs.Reduction.{solve-rest}
-use Rattle.word.proofs.Turn.{bit-times}
+use Rattle.word.proofs.Turn.{times-bit}
 use Rattle.stratify.specs.Basis.{entries, Images, Swept, Sweeps}
 
 module _ (words indexes : List ℕ) (v k : ℕ) where
@@ -59,14 +59,14 @@ module _ (words indexes : List ℕ) (v k : ℕ) where
       moved : bitXor index (getD indexes t 0 * (word / 2 ^ q % 2)) ≡ plus 2 k (solve 2 L (entries words indexes (suc t)) v)
       moved =
           sym (plus-two index (getD indexes t 0 * (word / 2 ^ q % 2)))
-          ∙ ap₂ (plus 2) (before .moved) (bit-times (word / 2 ^ q) (getD indexes t 0))
+          ∙ ap₂ (plus 2) (before .moved) (times-bit (getD indexes t 0) (word / 2 ^ q))
           ∙ plus-assoc one-lt-two k p (times 2 d (getD indexes t 0))
           ∙ ap (plus 2 k) (sym next)
 
       rest : bitXor word (getD words t 0 * (word / 2 ^ q % 2)) ≡ minus 2 v (L (solve 2 L (entries words indexes (suc t)) v))
       rest =
           sym (minus-two word (getD words t 0 * (word / 2 ^ q % 2)))
-          ∙ ap₂ (minus 2) (before .rest) (bit-times (word / 2 ^ q) (getD words t 0))
+          ∙ ap₂ (minus 2) (before .rest) (times-bit (getD words t 0) (word / 2 ^ q))
           ∙ minus-minus one-lt-two v (L p) (times 2 d (getD words t 0))
           ∙ ap (minus 2 v) (sym image ∙ ap L (sym next))
 

@@ -39,12 +39,14 @@ use Rattle.plan.specs.declared.pair.Plan.{Plan}
 use Rattle.plan.specs.declared.pair.Shift.{Shift}
 use Rattle.plan.specs.Pair.{generators, sequence, standard-pair, largest-level, loaded}
 use Rattle.plan.specs.Fill.{filling, filled}
-use Rattle.plan.specs.Walk.{last-index, opening}
+use Rattle.plan.specs.Range.{index-bits, last-index}
+use Rattle.plan.specs.Walk.{opening}
 use Rattle.plan.specs.Lists.{pointed, held, told}
 use Rattle.plan.proofs.Loading.{loaded-accepted}
 use Rattle.plan.proofs.Lists.{filled-visits, opened, steps, walk-visits}
 use Rattle.stratify.specs.Answers.{of-verdict, of-location, checking, querying, unknown-level}
 use Rattle.stratify.specs.Theorem.{Words, Level, Cell, Related, Covered, Queried, Checked, Lists, StandardPair, Theorems}
+use Rattle.stratify.proofs.Tests.{level-bounds}
 use Rattle.stratify.proofs.Outcomes.{querying-locate, checking-check, verdict-accepted, verdict-not-net, location-accepted, location-not-net}
 
 lawful : (s : Shift) → Words s → Lawful 2 32 (shift 2 (s .x) (s .y))
@@ -187,17 +189,9 @@ accepted-covered words below M e =
     let (one, rest) = first-accepted _ 1 _ (not (eqb (length words) 64)) e in
     let (second, last) = first-accepted _ 2 _ (unknown-level M .holds) rest in
     let long = eqb-true (length words) 64 (not-false (eqb (length words) 64) one) in
-    let known = level-of M second in
-    covered (valid-loaded words below long) (known .known) (checked words below long known .accepted-iff .0 e)
-  where
-    neither : (s t : Bool) → (s || t) ≡ false → (s ≡ false) × (t ≡ false)
-    neither true t h = absurd (true≢false h)
-    neither false t h = (refl, h)
-
-    level-of : (level : ℕ) → unknown-level level .holds ≡ false → Level level
-    level-of level h =
-        let (low, high) = neither (ltb level 1) (ltb largest-level level) h in
-        record { positive = ltb-false level 1 low; known = ltb-false largest-level level high }
+    let (positive, top) = level-bounds M second in
+    let known : Level M = record { positive = positive; known = top } in
+    covered (valid-loaded words below long) top (checked words below long known .accepted-iff .0 e)
 
 -- ---- the standard pair
 

@@ -10,6 +10,7 @@ use Rattle.refusal.specs.Outcome.{Outcome, accepted, not-net, Test, first}
 use Rattle.refusal.specs.Refusal.{of-refusal}
 use Rattle.plan.specs.declared.pair.Plan.{Plan}
 use Rattle.plan.specs.declared.pair.Shift.{Shift}
+use Rattle.plan.specs.Range.{index-bits}
 use Rattle.plan.specs.Pair.{generators, loaded, not-a-pair, largest-level}
 use Rattle.stratify.specs.declared.cells.Located.{Located}
 use Rattle.stratify.specs.declared.cells.Located.the-variants as located
@@ -37,7 +38,7 @@ query-tests level m a c r k =
     ∷ record { number = 4; holds = ltb level m }
     ∷ record { number = 5; holds = ltb m a }
     ∷ record { number = 6; holds = leb (2 ^ a) c || leb (2 ^ (m - a)) r }
-    ∷ record { number = 7; holds = leb (2 ^ (32 - m)) k }
+    ∷ record { number = 7; holds = leb (2 ^ (index-bits - m)) k }
     ∷ []
 
 -- column c and row r of the shape (m, a), in block k

@@ -22,7 +22,8 @@ use Rattle.plan.specs.declared.pair.Plan.{Plan}
 use Rattle.plan.specs.declared.pair.Shift.{Shift}
 use Rattle.plan.specs.Pair.{generators, sequence, standard-pair, largest-level, loaded}
 use Rattle.plan.specs.Fill.{filling, filled}
-use Rattle.plan.specs.Walk.{last-index, opening}
+use Rattle.plan.specs.Range.{index-bits, last-index}
+use Rattle.plan.specs.Walk.{opening}
 use Rattle.plan.specs.Lists.{pointed, held, told}
 use Rattle.stratify.specs.Answers.{checking, querying}
 
@@ -44,7 +45,7 @@ pub record Cell (M m a k c r : ℕ) : Type 0 where
   pub wide : a ≤ m
   pub column : c < 2 ^ a
   pub row : r < 2 ^ (m - a)
-  pub block : k < 2 ^ (32 - m)
+  pub block : k < 2 ^ (index-bits - m)
 
 -- ---- 1, 2: one visit in every cell of every shape, and its relation to the plain run
 
@@ -128,7 +129,7 @@ pub record Theorems : Type 0 where
       → {level m a c r k : ℕ} → Level level → Cell level m a k c r → Queried P s level m a c r k
   -- (01: for m 0 the answer is the number of the block)
   pub size-zero : {P : Plan} → Valid (generators P) → {s : Shift} → Words s → {level : ℕ} → Level level
-      → {k : ℕ} → k < 2 ^ 32 → querying P s level 0 0 0 0 k ≡ accepted k
+      → {k : ℕ} → k < 2 ^ index-bits → querying P s level 0 0 0 0 k ≡ accepted k
   -- of 64 words
   pub checked : (words : List ℕ) → Below (2 ^ 32) words → length words ≡ 64 → {level : ℕ} → Level level → Checked words level
   pub accepted-covered : (words : List ℕ) → Below (2 ^ 32) words → (M : ℕ) → checking words M ≡ accepted tt → Covered (loaded words) M

@@ -12,18 +12,23 @@ use crate::bits::join;
 use crate::bits::top;
 use crate::elimination::eliminate;
 use crate::elimination::sweep;
+use crate::levels::unknown_level;
+use plan::Index;
 use plan::Plan;
 use plan::Shift;
 use refusal::Refusal;
 
+// A block by its number: block k of size m holds the indexes k * 2^m to (k + 1) * 2^m - 1.
+pub type Block = u32;
+
 // What a query answers.
 pub enum Located {
-    Found(u32),
+    Found(Index),
     Refused(Refusal),
 }
 
 // A column or row that is asked for, less that of an index, which has t digits.
-fn less(columns: [u32; 32], index: u32, shift: u32, t: u32, asked: u32) -> u32
+fn less(columns: [u32; 32], index: Index, shift: u32, t: u32, asked: u32) -> u32
     requires { ⌜ t ≤ 32 ⌝ }
     ensures { λ r. ⌜ r ≡ minus 2 asked (plus 2 (product 2 columns index) shift / 2 ^ (32 - t)) ⌝ }
 {
@@ -40,7 +45,7 @@ fn plain_cell(
     a: u32,
     column: u32,
     row: u32,
-    block: u32,
+    block: Block,
 ) -> u32
     requires { ⌜ (a ≤ m) × (m ≤ 32) × (column < 2 ^ a) × (row < 2 ^ (m - a)) × (block < 2 ^ (32 - m)) ⌝ }
     ensures { λ r. ⌜ r ≡ plain-interval (shifted (pair x y) s t) m a block column row ⌝ }
@@ -61,7 +66,7 @@ fn find(
     a: u32,
     column: u32,
     row: u32,
-    block: u32,
+    block: Block,
 ) -> Located
     requires { ⌜ (a ≤ m) × (m ≤ 32) × (column < 2 ^ a) × (row < 2 ^ (m - a)) × (block < 2 ^ (32 - m)) ⌝ }
     ensures { λ r. ⌜ of-located r ≡ of-location m a (locate (pair x y) (shift 2 s t) m a block column row) ⌝ }
@@ -87,14 +92,11 @@ pub fn query(
     a: u32,
     column: u32,
     row: u32,
-    block: u32,
+    block: Block,
 ) -> Located
     ensures { λ r. ⌜ of-located r ≡ querying plan shift level m a column row block ⌝ }
 {
-    if level < 1 {
-        return Located::Refused(Refusal::Level);
-    }
-    if level > Plan::LARGEST_LEVEL {
+    if unknown_level(level) {
         return Located::Refused(Refusal::Level);
     }
     if m > level {

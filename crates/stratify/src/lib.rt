@@ -3,8 +3,10 @@
 mod bits;
 mod cells;
 mod elimination;
+mod levels;
 mod shapes;
 
+pub use cells::Block;
 pub use cells::Located;
 pub use cells::query;
 pub use shapes::check;

@@ -6,6 +6,7 @@ ghost use Rattle.refusal.specs.Refusal.{of-judgement};
 ghost use Rattle.plan.specs.Pair.{pair};
 ghost use Rattle.stratify.specs.Answers.{of-verdict, checking};
 use crate::elimination::eliminate;
+use crate::levels::unknown_level;
 use plan::Plan;
 use refusal::Judgement;
 use refusal::Refusal;
@@ -45,10 +46,7 @@ pub fn check(words: &[u32], level: u32) -> Judgement
         }
         Judgement::Accepted => {}
     }
-    if level < 1 {
-        return Judgement::Refused(Refusal::Level);
-    }
-    if level > Plan::LARGEST_LEVEL {
+    if unknown_level(level) {
         return Judgement::Refused(Refusal::Level);
     }
     let x = loaded.plan.x;

@@ -1,30 +1,25 @@
 -- `plan::fills::coordinates` meets its contract: the first k words are the coordinates of the first k indexes. Assumes nothing.
-use mathlib.Core.Path.{_≡_, refl, sym, ap, _∙_}
-use mathlib.Core.List.{List, [], _∷_, _++_, map}
-use Prim.Native.Nat.{ℕ, suc, _≤_, _-_, _+_}
-use native.Mathlib.Numerals.{add-one}
+use mathlib.Core.List.{List}
+use Prim.Native.Nat.{ℕ, _≤_, _-_}
 use native.Mathlib.Omega.{arith}
-use lib.ListN.{length, take, set, length-set}
-use lib.Seq.{take-suc-set, take-all}
+use lib.ListN.{length}
 use Rattle.digits.specs.Digits.{plus}
 use Rattle.net.specs.Generators.{product}
-use Rattle.net.specs.Run.{range}
-use Rattle.net.proofs.Run.{each-suc}
+use Rattle.word.proofs.Filled.{Filled, filled-none, filled-more, filled-all}
 use Rattle.plan.proofs.fills.coordinates.Statement.{statement}
 use Rattle.plan.proofs.fills.coordinates.Tie as tie
 
-abbrev written : List ℕ → ℕ → ℕ → ℕ → List ℕ
-written columns shift start k = map (λ (i : ℕ). plus 2 (product 2 columns i) shift) (range start k)
+abbrev at : List ℕ → ℕ → ℕ → ℕ
+at columns shift i = plus 2 (product 2 columns i) shift
 
 abbrev Inv-loop : tie.InvT-loop
-Inv-loop columns shift start out₀ k₀ out k = (k ≤ length out₀) × (length out ≡ length out₀) × (take k out ≡ written columns shift start k)
+Inv-loop columns shift start out₀ k₀ out k = (k ≤ length out₀) × Filled (at columns shift) start k out₀ out
 
 abbrev μ-loop : tie.MeasureT-loop
 μ-loop columns shift start out₀ k₀ out k = length out₀ - k
 
 loop-holds : tie.Need-loop-holds Inv-loop μ-loop
-unfolding range
-loop-holds c = (omega arith, refl, refl)
+loop-holds c = (omega arith, filled-none)
 
 cast-coordinate : tie.Need-cast-coordinate Inv-loop μ-loop
 cast-coordinate c = omega arith
@@ -48,28 +43,13 @@ loop-less : tie.Need-loop-less Inv-loop μ-loop
 loop-less c = omega arith
 
 loop-again : tie.Need-loop-again Inv-loop μ-loop
-loop-again c =
-    let a = c .before .before .before .before .args in
-    let f : ℕ → ℕ = λ (i : ℕ). plus 2 (product 2 (a .columns) i) (a .shift) in
-    let l = c .before .before .loop in (
-      omega arith,
-      simp length-set (l .inv .1),
-      ap (λ (n : ℕ). take n (set (l .out) (l .k) (c .coordinate .result))) (add-one (l .k))
-          ∙ take-suc-set (l .out) (l .k) (c .coordinate .result) (omega arith)
-          ∙ ap (λ (t : List ℕ). t ++ (c .coordinate .result ∷ [])) (l .inv .2)
-          ∙ ap (λ (x : ℕ). map f (range (a .start) (l .k)) ++ (x ∷ [])) (c .coordinate .ensures)
-          ∙ sym (ap (λ (n : ℕ). map f (range (a .start) n)) (add-one (l .k)) ∙ each-suc f (a .start) (l .k)),
-    )
+loop-again c = (omega arith, filled-more (c .before .before .loop .inv .1) (c .coordinate .result) (c .coordinate .ensures) (omega arith))
 
 same-length : tie.Need-same-length Inv-loop μ-loop
-same-length c = c .before .loop .inv .1
+same-length c = c .before .loop .inv .1 .long
 
 returns : tie.Need-returns Inv-loop μ-loop
-returns c =
-    let a = c .before .before .before .args in
-    let l = c .before .loop in
-    let e : l .k ≡ length (a .out .now) = omega arith in
-    sym (take-all (l .k) (l .out) (omega arith)) ∙ l .inv .2 ∙ ap (written (a .columns) (a .shift) (a .start)) e
+returns c = filled-all (c .before .loop .inv .1) (omega arith)
 
 pub coordinates-spec : {M : Type 1} → statement M
 coordinates-spec =

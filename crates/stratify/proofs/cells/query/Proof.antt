@@ -1,7 +1,7 @@
 -- `stratify::cells::query` meets its contract: its tests are those of the definition, in its order. Assumes nothing.
 use mathlib.Core.Path.{_≡_, sym, _∙_}
 use mathlib.Core.List.{List, []}
-use Prim.Native.Nat.{ℕ, _-_, _^_}
+use Prim.Native.Nat.{ℕ, _-_, _^_, _≤_}
 use native.Mathlib.Omega.{arith}
 use borrow.Author.Tests.{lt-ltb, le-ltb, le-leb, lt-leb}
 use borrow.Author.Needs.{needs}
@@ -12,7 +12,7 @@ use Rattle.refusal.specs.Outcome.{Outcome, Test, first}
 use Rattle.refusal.proofs.First.{first-none, first-refuses, first-passes}
 use Rattle.plan.specs.Pair.{generators}
 use Rattle.stratify.specs.Answers.{of-location, query-tests, querying}
-use Rattle.stratify.proofs.Tests.{below-limit, past-limit, level-low, level-high, level-known, column-past, row-past, cell-within}
+use Rattle.stratify.proofs.Tests.{below-limit, past-limit, level-bounds, column-past, row-past, cell-within}
 use Rattle.stratify.proofs.cells.query.Statement.{statement}
 use Rattle.stratify.proofs.cells.query.Tie as tie
 
@@ -31,46 +31,63 @@ Passed n s =
     querying (s .args .plan) (s .args .shift) (s .args .level) (s .args .m) (s .args .a) (s .args .column) (s .args .row) (s .args .block)
     ≡ first (drop n (tests s)) (located s)
 
-level-passed : (c : tie.Else2) → Passed 1 (c .before .before)
-level-passed c =
-    let s = c .before .before in
-    first-passes (located s) 2 _ (level-known (s .args .level) (c .before .if1 .left) (c .if2 .left))
+-- past the first test the level is at most the largest
+level-within : (c : tie.Else3) → c .before .before .before .before .args .level ≤ 32
+level-within c =
+    let level = c .before .before .before .before .args .level in
+    level-bounds level (sym (c .before .before .before .unknown-level .ensures) ∙ c .before .before .if1 .left) .1
 
-size-passed : (c : tie.Else3) → Passed 2 (c .before .before .before)
-size-passed c = level-passed (c .before) ∙ first-passes (located (c .before .before .before)) 4 _ (le-ltb _ _ (c .if3 .left))
+level-passed : (c : tie.Else1) → Passed 1 (c .before .before)
+level-passed c = first-passes (located (c .before .before)) 2 _ (sym (c .before .unknown-level .ensures) ∙ c .if1 .left)
 
-shape-passed : (c : tie.Else4) → Passed 3 (c .before .before .before .before)
-shape-passed c = size-passed (c .before) ∙ first-passes (located (c .before .before .before .before)) 5 _ (le-ltb _ _ (c .if4 .left))
+size-passed : (c : tie.Else2) → Passed 2 (c .before .before .before)
+size-passed c = level-passed (c .before) ∙ first-passes (located (c .before .before .before)) 4 _ (le-ltb _ _ (c .if2 .left))
 
-cell-passed : (c : tie.Else6) → Passed 4 (c .before .before .before .before .before .before)
+shape-passed : (c : tie.Else3) → Passed 3 (c .before .before .before .before)
+shape-passed c = size-passed (c .before) ∙ first-passes (located (c .before .before .before .before)) 5 _ (le-ltb _ _ (c .if3 .left))
+
+cell-passed : (c : tie.Else5) → Passed 4 (c .before .before .before .before .before .before)
 cell-passed c =
     let s = c .before .before .before .before .before .before in
     shape-passed (c .before .before)
     ∙ first-passes (located s) 6 _
-    (cell-within (s .args .m) (s .args .a) (s .args .column) (s .args .row) (below-limit _ _ (c .before .if5 .left)) (below-limit _ _ (c .if6 .left)))
+    (cell-within (s .args .m) (s .args .a) (s .args .column) (s .args .row) (below-limit _ _ (c .before .if4 .left)) (below-limit _ _ (c .if5 .left)))
+
+unknown-level-requires : tie.Need-unknown-level-requires
+unknown-level-requires c κs = search needs
 
 returns : tie.Need-returns
-returns c = sym (first-refuses (located (c .before)) 2 _ (level-low (c .before .args .level) (c .if1 .taken)))
+returns c = sym (first-refuses (located (c .before .before)) 2 _ (sym (c .before .unknown-level .ensures) ∙ c .if1 .taken))
 
 returns-2 : tie.Need-returns-2
-returns-2 c =
-    let s = c .before .before in
-    sym (first-refuses (located s) 2 _ (level-high (s .args .level) (c .before .if1 .left) (c .if2 .taken)))
+returns-2 c = sym (level-passed (c .before) ∙ first-refuses (located (c .before .before .before)) 4 _ (lt-ltb _ _ (c .if2 .taken)))
 
 returns-3 : tie.Need-returns-3
-returns-3 c = sym (level-passed (c .before) ∙ first-refuses (located (c .before .before .before)) 4 _ (lt-ltb _ _ (c .if3 .taken)))
+returns-3 c = sym (size-passed (c .before) ∙ first-refuses (located (c .before .before .before .before)) 5 _ (lt-ltb _ _ (c .if3 .taken)))
+
+shr-if4 : tie.Need-shr-if4
+shr-if4 c = omega (arith, level-within c)
 
 returns-4 : tie.Need-returns-4
-returns-4 c = sym (size-passed (c .before) ∙ first-refuses (located (c .before .before .before .before)) 5 _ (lt-ltb _ _ (c .if4 .taken)))
+returns-4 c =
+    let s = c .before .before .before .before .before in
+    sym (shape-passed (c .before) ∙ first-refuses (located s) 6 _
+    (column-past (s .args .m) (s .args .a) (s .args .column) (s .args .row) (past-limit _ _ (c .if4 .taken))))
+
+cast-if5 : tie.Need-cast-if5
+cast-if5 c = search needs
 
 shr-if5 : tie.Need-shr-if5
-shr-if5 c = search needs
+shr-if5 c = omega (arith, level-within (c .before))
 
 returns-5 : tie.Need-returns-5
 returns-5 c =
-    let s = c .before .before .before .before .before in
-    sym (shape-passed (c .before) ∙ first-refuses (located s) 6 _
-    (column-past (s .args .m) (s .args .a) (s .args .column) (s .args .row) (past-limit _ _ (c .if5 .taken))))
+    let s = c .before .before .before .before .before .before in
+    sym (shape-passed (c .before .before) ∙ first-refuses (located s) 6 _
+    (row-past (s .args .m) (s .args .a) (s .args .column) (s .args .row) (below-limit _ _ (c .before .if4 .left)) (past-limit _ _ (c .if5 .taken))))
+
+sub-if6 : tie.Need-sub-if6
+sub-if6 c = omega (arith, level-within (c .before .before))
 
 cast-if6 : tie.Need-cast-if6
 cast-if6 c = search needs
@@ -80,52 +97,38 @@ shr-if6 c = search needs
 
 returns-6 : tie.Need-returns-6
 returns-6 c =
-    let s = c .before .before .before .before .before .before in
-    sym (shape-passed (c .before .before) ∙ first-refuses (located s) 6 _
-    (row-past (s .args .m) (s .args .a) (s .args .column) (s .args .row) (below-limit _ _ (c .before .if5 .left)) (past-limit _ _ (c .if6 .taken))))
-
-sub-if7 : tie.Need-sub-if7
-sub-if7 c = search needs
-
-cast-if7 : tie.Need-cast-if7
-cast-if7 c = search needs
-
-shr-if7 : tie.Need-shr-if7
-shr-if7 c = search needs
-
-returns-7 : tie.Need-returns-7
-returns-7 c =
     sym (cell-passed (c .before) ∙ first-refuses (located (c .before .before .before .before .before .before .before)) 7 []
-    (le-leb _ _ (past-limit _ _ (c .if7 .taken))))
+    (le-leb _ _ (past-limit _ _ (c .if6 .taken))))
 
 find-requires : tie.Need-find-requires
 find-requires c κs =
     let d = c .before .before in
-    (omega arith, omega arith, below-limit _ _ (d .before .before .if5 .left), below-limit _ _ (d .before .if6 .left), below-limit _ _ (d .if7 .left))
+    let known = level-within (d .before .before .before) in
+    (omega arith, omega arith, below-limit _ _ (d .before .before .if4 .left), below-limit _ _ (d .before .if5 .left), below-limit _ _ (d .if6 .left))
 
-returns-8 : tie.Need-returns-8
-returns-8 c =
+returns-7 : tie.Need-returns-7
+returns-7 c =
     let d = c .before .before .before in
     let s = d .before .before .before .before .before .before .before in
     c .find .ensures
-    ∙ sym (cell-passed (d .before) ∙ first-passes (located s) 7 [] (lt-leb _ _ (below-limit _ _ (d .if7 .left))) ∙ first-none (located s))
+    ∙ sym (cell-passed (d .before) ∙ first-passes (located s) 7 [] (lt-leb _ _ (below-limit _ _ (d .if6 .left))) ∙ first-none (located s))
 
 pub query-spec : {M : Type 1} → statement M
 query-spec =
     tie.close
     (tie.spec
+    unknown-level-requires
     returns
     returns-2
     returns-3
+    shr-if4
     returns-4
+    cast-if5
     shr-if5
     returns-5
+    sub-if6
     cast-if6
     shr-if6
     returns-6
-    sub-if7
-    cast-if7
-    shr-if7
-    returns-7
     find-requires
-    returns-8)
+    returns-7)

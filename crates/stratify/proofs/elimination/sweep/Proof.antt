@@ -8,7 +8,7 @@ use lib.Count.{trailing-le}
 use lib.ListN.{getD}
 use mir.Syntax.{w32}
 use mir.Val.{Fits}
-use Rattle.word.proofs.Turn.{bit-times-lt}
+use Rattle.word.proofs.Turn.{times-bit-fits}
 use Rattle.stratify.specs.Basis.{Sweeps}
 use Rattle.stratify.proofs.Reduction.{sweep-none, sweep-more}
 use Rattle.stratify.proofs.elimination.sweep.Statement.{statement}
@@ -44,7 +44,7 @@ cast-bit-3 c = search needs
 mul-word : tie.Need-mul-word Inv-loop μ-loop
 mul-word c =
     let f : Fits w32 (getD (c .before .before .args .t1) (c .before .loop .t) 0) = search needs in
-    record { fits = bit-times-lt _ _ (f .fits) }
+    times-bit-fits _ f
 
 mul-index : tie.Need-mul-index Inv-loop μ-loop
 mul-index c = omega arith
@@ -55,7 +55,7 @@ array-read-index c = omega arith
 mul-index-2 : tie.Need-mul-index-2 Inv-loop μ-loop
 mul-index-2 c =
     let f : Fits w32 (getD (c .before .before .args .t2) (c .before .loop .t) 0) = search needs in
-    record { fits = bit-times-lt _ _ (f .fits) }
+    times-bit-fits _ f
 
 add-t : tie.Need-add-t Inv-loop μ-loop
 add-t c = omega arith
@@ -68,7 +68,7 @@ loop-again c =
     let a = c .before .before .args in
     let l = c .before .loop in
     let f : Fits w32 (getD (a .t1) (l .t) 0) = search needs in
-    (omega arith, xor-lt 32 (l .word) _ (l .inv .1) (bit-times-lt _ _ (f .fits)), sweep-more (a .t1) (a .t2) (a .v) (a .k) (l .t) (l .word) (l .index) (l .inv .2))
+    (omega arith, xor-lt 32 (l .word) _ (l .inv .1) (times-bit-fits _ f .fits), sweep-more (a .t1) (a .t2) (a .v) (a .k) (l .t) (l .word) (l .index) (l .inv .2))
 
 returns : tie.Need-returns Inv-loop μ-loop
 returns c =

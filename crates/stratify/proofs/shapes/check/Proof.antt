@@ -13,7 +13,7 @@ use Rattle.refusal.proofs.First.{first-none, first-refuses, first-passes, alone
 use Rattle.plan.specs.declared.pair.Plan.{Plan}
 use Rattle.plan.specs.Pair.{generators, loaded}
 use Rattle.stratify.specs.Answers.{of-verdict, unknown-level, checking}
-use Rattle.stratify.proofs.Tests.{level-low, level-high, level-known}
+use Rattle.stratify.proofs.Tests.{level-bounds}
 use Rattle.stratify.proofs.shapes.check.Statement.{statement}
 use Rattle.stratify.proofs.shapes.check.Tie as tie
 
@@ -45,27 +45,27 @@ returns c =
 enum-told : tie.Need-enum-told
 enum-told c = search needs
 
+unknown-level-requires : tie.Need-unknown-level-requires
+unknown-level-requires c κs = search needs
+
 returns-2 : tie.Need-returns-2
 returns-2 c =
-    let s = c .before .before .before .before .before in
-    sym (pair-passed (c .before) ∙ first-refuses (verdict s) 2 [] (level-low (s .args .level) (c .if1 .taken)))
+    let told = c .before .before in
+    sym (pair-passed told ∙ first-refuses (verdict (told .before .before .before .before)) 2 [] (sym (c .before .unknown-level .ensures) ∙ c .if1 .taken))
+
+scan-requires : tie.Need-scan-requires
+scan-requires c κs =
+    let d = c .before .before in
+    level-bounds _ (sym (d .before .unknown-level .ensures) ∙ d .if1 .left) .1
 
 returns-3 : tie.Need-returns-3
 returns-3 c =
-    let s = c .before .before .before .before .before .before in
-    sym (pair-passed (c .before .before) ∙ first-refuses (verdict s) 2 [] (level-high (s .args .level) (c .before .if1 .left) (c .if2 .taken)))
-
-scan-requires : tie.Need-scan-requires
-scan-requires c κs = search needs
-
-returns-4 : tie.Need-returns-4
-returns-4 c =
     let d = c .before .before .before in
     let told = d .before .before in
     let s = told .before .before .before .before in
     c .scan .ensures
     ∙ ap (λ (P : Plan). of-verdict (check (generators P) (s .args .level))) (told .before .before .load .ensures .1)
-    ∙ sym (pair-passed told ∙ first-passes (verdict s) 2 [] (level-known (s .args .level) (d .before .if1 .left) (d .if2 .left)) ∙ first-none (verdict s))
+    ∙ sym (pair-passed told ∙ first-passes (verdict s) 2 [] (sym (d .before .unknown-level .ensures) ∙ d .if1 .left) ∙ first-none (verdict s))
 
 pub check-spec : {M : Type 1} → statement M
 check-spec =
@@ -75,7 +75,7 @@ check-spec =
     enum-known-answer
     returns
     enum-told
+    unknown-level-requires
     returns-2
-    returns-3
     scan-requires
-    returns-4)
+    returns-3)

@@ -1,20 +1,20 @@
--- `word::product::coordinate` meets its contract. Assumes nothing.
+-- `coordinate` meets its contract: the sum and the product of the columns to come stay together what they were at the start.
 use mathlib.Core.Path.{_≡_, refl, sym, _∙_}
 use Prim.Native.Nat.{_-_, _≤_}
 use native.Mathlib.Omega.{arith}
 use borrow.Author.Needs.{needs}
-use lib.ListN.{drop, getD}
-use mir.Syntax.{w32}
-use mir.Val.{Fits}
+use lib.ListN.{drop}
 use Rattle.digits.specs.Digits.{plus}
 use Rattle.digits.proofs.Arithmetic.{plus-comm}
+use Rattle.digits.proofs.Two.{one-lt-two}
 use Rattle.net.specs.Generators.{product}
-use Rattle.word.proofs.Turn.{turn, turn-end, bit-times-lt}
+use Rattle.word.proofs.Turn.{times-bit-fits, sum-drop, sum-past}
 use Rattle.word.proofs.product.coordinate.Statement.{statement}
 use Rattle.word.proofs.product.coordinate.Tie as tie
 
 abbrev Inv-loop : tie.InvT-loop
-Inv-loop index shift columns sum₀ rest₀ c₀ sum rest c = (c ≤ 32) × (plus 2 sum (product 2 (drop c columns) rest) ≡ plus 2 shift (product 2 columns index))
+Inv-loop index shift columns sum₀ rest₀ c₀ sum rest c =
+    (c ≤ 32) × (plus 2 sum (product 2 (drop c columns) rest) ≡ plus 2 shift (product 2 columns index))
 
 abbrev μ-loop : tie.MeasureT-loop
 μ-loop index shift columns sum₀ rest₀ c₀ sum rest c = 32 - c
@@ -29,9 +29,7 @@ array-read-sum : tie.Need-array-read-sum Inv-loop μ-loop
 array-read-sum c = omega arith
 
 mul-sum-2 : tie.Need-mul-sum-2 Inv-loop μ-loop
-mul-sum-2 c =
-    let f : Fits w32 (getD (c .before .before .args .t1) (c .before .loop .c) 0) = search needs in
-    record { fits = bit-times-lt (c .before .loop .rest) _ (f .fits) }
+mul-sum-2 c = times-bit-fits _ (search needs)
 
 add-c : tie.Need-add-c Inv-loop μ-loop
 add-c c = omega arith
@@ -43,13 +41,13 @@ loop-again : tie.Need-loop-again Inv-loop μ-loop
 loop-again c =
     let a = c .before .before .args in
     let l = c .before .loop in
-    (omega arith, turn (a .t1) (l .c) (l .rest) (l .sum) ∙ l .inv .1)
+    (omega arith, sum-drop (a .t1) (l .c) (l .rest) (l .sum) ∙ l .inv .1)
 
 returns : tie.Need-returns Inv-loop μ-loop
 returns c =
     let a = c .before .before .args in
     let l = c .before .loop in
-    sym (turn-end (a .t1) (l .c) (l .rest) (l .sum) (omega arith)) ∙ l .inv .1 ∙ plus-comm (omega arith) (a .shift) (product 2 (a .t1) (a .index))
+    sym (sum-past (a .t1) (l .c) (l .rest) (l .sum) (omega arith)) ∙ l .inv .1 ∙ plus-comm one-lt-two (a .shift) (product 2 (a .t1) (a .index))
 
 pub coordinate-spec : {M : Type 1} → statement M
 coordinate-spec = tie.close (tie.spec Inv-loop μ-loop loop-holds mul-sum array-read-sum mul-sum-2 add-c loop-less loop-again returns)

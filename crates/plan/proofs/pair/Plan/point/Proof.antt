@@ -1,7 +1,6 @@
 -- `plan::pair::Plan::point` meets its contract. Assumes nothing.
-use mathlib.Core.Path.{ap₂}
-use Prim.Native.Nat.{ℕ}
 use borrow.Author.Needs.{needs}
+use Rattle.plan.proofs.Laws.{both}
 use Rattle.plan.proofs.pair.Plan.point.Statement.{statement}
 use Rattle.plan.proofs.pair.Plan.point.Tie as tie
 
@@ -12,7 +11,7 @@ coordinate-requires-2 : tie.Need-coordinate-requires-2
 coordinate-requires-2 c κs = search needs
 
 returns : tie.Need-returns
-returns c = ap₂ {C = ℕ × ℕ} (λ (x y : ℕ). (x, y)) (c .before .coordinate .ensures) (c .coordinate2 .ensures)
+returns c = both (c .before .coordinate .ensures) (c .coordinate2 .ensures)
 
 pub point-spec : {M : Type 1} → statement M
 point-spec = tie.close (tie.spec coordinate-requires coordinate-requires-2 returns)

@@ -1,0 +1,16 @@
+// The range of the indexes: 32 bits.
+ghost use mathlib.Core.Path.{_≡_};
+ghost use Rattle.plan.specs.Range.{past-last};
+
+pub type Index = u32;
+
+pub const LAST_INDEX: Index = 4294967295;
+
+// Whether count indexes from start on go past the last.
+pub fn past_last(start: Index, count: u64) -> bool
+    ensures { λ r. ⌜ r ≡ past-last start count .holds ⌝ }
+{
+    let last = LAST_INDEX as u64;
+    let first = start as u64;
+    count > last - first + 1
+}
