@@ -1,8 +1,8 @@
 -- What a fill answers and leaves. Assumes nothing.
-use mathlib.Core.Path.{_≡_, refl, ap, _∙_}
+use mathlib.Core.Path.{_≡_, ap, _∙_}
 use mathlib.Core.Bool.{true, false, not}
 use mathlib.Core.Logic.{_≢_}
-use mathlib.Core.List.{List, [], _∷_, map}
+use mathlib.Core.List.{List, [], map}
 use Prim.Native.Nat.{ℕ}
 use borrow.Author.Tests.{eq-eqb, ne-eqb}
 use lib.ListN.{length}
@@ -11,7 +11,7 @@ use Rattle.net.specs.Run.{range}
 use Rattle.refusal.specs.Outcome.{accepted, refused}
 use Rattle.refusal.proofs.First.{first-none, first-refuses, first-passes, granted-accepted, granted-refused}
 use Rattle.plan.specs.Range.{past-last}
-use Rattle.plan.specs.Fill.{Buffers, filling, filled}
+use Rattle.plan.specs.Fill.{filling, filled}
 
 module _ (start : ℕ) (xs ys : List ℕ) where
   pub refused-lengths : length xs ≢ length ys → filling start xs ys ≡ refused 8 []

@@ -1,15 +1,27 @@
 -- Facts that the proofs of points, fills and walks share. Assumes nothing.
 use mathlib.Core.Path.{_≡_, ap, ap₂}
-use Prim.Native.Nat.{ℕ}
+use mathlib.Core.List.{List}
+use Prim.Native.Nat.{ℕ, _^_, _<_}
+use lib.ListN.{getD}
+use Rattle.digits.proofs.Two.{one-lt-two}
+use Rattle.net.specs.Generators.{Valid}
 use Rattle.net.specs.Sequence.{Sequence, point}
 use Rattle.net.specs.Run.{Visit, visit}
 use Rattle.net.specs.Walk.{Walk, Stepped, visited}
+use Rattle.net.proofs.Below.{below-of}
+use Rattle.plan.specs.Pair.{pair}
 
 -- a point by its coordinates
 pub both : {x y u v : ℕ} → x ≡ u → y ≡ v → _≡_ {A = ℕ × ℕ} (x, y) (u, v)
 both e f = ap₂ (λ (a b : ℕ). (a, b)) e f
 
 -- a step that tells the point of the next index tells its visit
-pub tells : (S : Sequence) (w : Walk) (i x y : ℕ) → (x, y) ≡ point S i
-    → _≡_ {A = Stepped Visit} (record { answer = visited (record { index = i; x = x; y = y }); walk = w }) (record { answer = visited (visit S i); walk = w })
-tells S w i x y e = ap (λ (p : ℕ × ℕ). record { answer = visited (record { index = i; x = p .0; y = p .1 }); walk = w }) e
+abbrev telling : Visit → Walk → Stepped Visit
+telling v w = record { answer = visited v; walk = w }
+
+pub tells : (S : Sequence) (w : Walk) (i x y : ℕ) → (x, y) ≡ point S i → telling (record { index = i; x = x; y = y }) w ≡ telling (visit S i) w
+tells S w i x y e = ap (λ (p : ℕ × ℕ). telling (record { index = i; x = p .0; y = p .1 }) w) e
+
+-- columns that are words, as the code's are
+pub words-valid : (x y : List ℕ) → ((c : ℕ) → getD x c 0 < 2 ^ 32) → ((c : ℕ) → getD y c 0 < 2 ^ 32) → Valid (pair x y)
+words-valid x y hx hy = record { base = one-lt-two; X-fits = below-of (2 ^ 32) x hx; Y-fits = below-of (2 ^ 32) y hy }

@@ -1,9 +1,8 @@
 -- Point calls, fills and walks give the visits of consecutive indexes. Assumes nothing.
-use mathlib.Core.Path.{_≡_, refl, sym, ap, ap₂, _∙_}
+use mathlib.Core.Path.{_≡_, refl, sym, ap, _∙_}
 use mathlib.Core.Bool.{false, not}
 use mathlib.Core.List.{List, [], _∷_, _++_, map, append-nil}
 use Prim.Native.Nat.{ℕ, zero, suc, _+_, _-_, _^_, _≤_, min}
-use native.Mathlib.Omega.{arith}
 use borrow.Author.Tests.{ltb-false, not-false, eqb-true}
 use lib.Dec.{eqb, ltb}
 use lib.ListN.{length, replicate}
@@ -14,7 +13,7 @@ use Rattle.net.specs.Steps.{Walked}
 use Rattle.net.proofs.Walk.{walked}
 use Rattle.refusal.specs.Outcome.{Outcome, accepted, refused, first}
 use Rattle.refusal.proofs.First.{first-none, first-accepted}
-use Rattle.plan.specs.Fill.{Buffers, filling, filled}
+use Rattle.plan.specs.Fill.{filling, filled}
 use Rattle.plan.specs.Range.{last-index}
 use Rattle.plan.specs.Walk.{opening}
 use Rattle.plan.specs.Lists.{paired, held, told}

@@ -1,5 +1,5 @@
 -- The code's walks as those of net, and what opening one answers.
-use mathlib.Core.List.{List, [], _∷_}
+use mathlib.Core.List.{[], _∷_}
 use Prim.Native.Nat.{ℕ}
 use Rattle.net.specs.Run.{Visit}
 use Rattle.net.specs.Walk.{Walk, Answer, visited, ended, Stepped}

@@ -1,11 +1,10 @@
 -- Past their tests the check is net's check and the query net's query; what their outcomes tell of those. Assumes nothing.
 use mathlib.Core.Path.{_≡_, refl, sym, ap, _∙_}
 use mathlib.Core.Logic.{_↔_}
-use mathlib.Core.Bool.{not, _||_}
+use mathlib.Core.Bool.{not}
 use mathlib.Core.List.{List, []}
 use Prim.Native.Nat.{ℕ, _-_, _^_}
 use borrow.Author.Tests.{eq-eqb, le-ltb, lt-leb}
-use lib.Dec.{eqb}
 use lib.ListN.{length}
 use Rattle.net.specs.Finish.{shift}
 use Rattle.net.specs.Check.{Verdict, passed, refused, check}
@@ -15,8 +14,7 @@ use Rattle.refusal.proofs.First.{first-none, first-passes, accepted-refused}
 use Rattle.plan.specs.declared.pair.Plan.{Plan}
 use Rattle.plan.specs.declared.pair.Shift.{Shift}
 use Rattle.plan.specs.Pair.{generators, loaded}
-use Rattle.stratify.specs.Answers.{of-verdict, checking, of-location, querying}
-use Rattle.stratify.specs.Theorem.{Level, Cell}
+use Rattle.stratify.specs.Answers.{of-verdict, checking, of-location, querying, Level, Cell}
 use Rattle.stratify.proofs.Tests.{level-known, cell-within}
 
 -- ---- past the tests

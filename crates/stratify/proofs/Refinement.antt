@@ -9,16 +9,14 @@ use native.Mathlib.Omega.{arith}
 use lib.Count.{trailingZeros}
 use lib.ListN.{length, getD, set, length-set}
 use lib.Seq.{getD-set-same, getD-set-other}
-use Rattle.digits.proofs.Two.{one-lt-two}
 use Rattle.linear.proofs.Prime.{two}
 use Rattle.linear.proofs.Cases.{lt-or-ge}
-use Rattle.net.specs.Generators.{Valid}
 use Rattle.net.specs.Finish.{plain}
 use Rattle.net.specs.Shape.{Shape}
 use Rattle.net.specs.Sequence.{Least}
-use Rattle.net.specs.Elimination.{Additive, Choice, BasisEntry, Outcome, kernel, basis, serial, interval, reduce, new-entry, eliminate, eliminate-shape}
+use Rattle.net.specs.Elimination.{Additive, Choice, BasisEntry, serial, interval, reduce, new-entry}
+use Rattle.net.specs.Elimination.{Outcome, kernel, basis, eliminate, eliminate-shape}
 use Rattle.net.specs.Answers.{Eliminated}
-use Rattle.net.proofs.Below.{below-of}
 use Rattle.net.proofs.Interval.{interval-pow}
 use Rattle.net.proofs.Elimination.{eliminate-ends, eliminate-stops, eliminate-goes-on}
 use Rattle.net.proofs.Basis.{eliminated}
@@ -153,14 +151,7 @@ module _ {x y : List ℕ} {m a : ℕ} (shape : Shape (pair x y) m a) where
       record {
         least = λ n. absurd (n refl);
         solved = λ z. meant (basis (entries words indexes m))
-            (done .left ∙ ap (λ (n : ℕ). eliminate 2 L choice n m (entries words indexes m)) none ∙ eliminate-ends L choice m (entries words indexes m));
+            (done .left ∙ ap (λ (n : ℕ). eliminate 2 L choice n m (entries words indexes m)) none
+            ∙ eliminate-ends L choice m (entries words indexes m));
         images = λ z. done .images;
       }
-
--- the matrices that the code is given
-module _ (x y : List ℕ) (hx : (t : ℕ) → getD x t 0 < 2 ^ 32) (hy : (t : ℕ) → getD y t 0 < 2 ^ 32) where
-  pub valid-of : Valid (pair x y)
-  valid-of = record { base = one-lt-two; X-fits = below-of (2 ^ 32) x hx; Y-fits = below-of (2 ^ 32) y hy }
-
-  pub shape-of : (m a : ℕ) → a ≤ m → m ≤ 32 → Shape (pair x y) m a
-  shape-of m a wide fits = record { valid = valid-of; wide = wide; fits = fits }

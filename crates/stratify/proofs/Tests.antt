@@ -9,7 +9,6 @@ use lib.Dec.{leb, ltb}
 use Rattle.digits.proofs.Digit.{lt-of-div}
 use Rattle.digits.proofs.Two.{one-lt-two}
 use Rattle.linear.proofs.Cases.{lt-or-ge}
-use Rattle.refusal.specs.Outcome.{Test}
 use Rattle.plan.specs.Pair.{largest-level}
 use Rattle.stratify.specs.Answers.{unknown-level}
 

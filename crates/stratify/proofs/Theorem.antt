@@ -1,15 +1,13 @@
 -- One term of `Theorems`: demand 3 from the theorems of net. Assumes nothing.
-use mathlib.Core.Path.{_≡_, refl, sym, ap, ap₂, _∙_, subst}
-use mathlib.Core.Logic.{_≢_, _↔_}
-use mathlib.Core.Bool.{Bool, true, false, not, _||_, true≢false}
+use mathlib.Core.Path.{_≡_, refl, sym, ap, _∙_, subst}
+use mathlib.Core.Bool.{not}
 use mathlib.Core.List.{List}
-use Prim.Native.Nat.{ℕ, suc, _+_, _-_, _*_, _%_, _^_, _≤_, _<_, min}
-use native.Mathlib.Nat.{pow-zero}
+use Prim.Native.Nat.{ℕ, suc, _+_, _-_, _*_, _^_, _≤_, _<_, min}
 use native.Mathlib.Omega.{arith}
-use borrow.Author.Tests.{ltb-false, not-false, eqb-true}
+use borrow.Author.Tests.{not-false, eqb-true}
 use lib.Bits.{bitXor}
-use lib.Dec.{eqb, ltb}
-use lib.ListN.{length, take, drop}
+use lib.Dec.{eqb}
+use lib.ListN.{length, take}
 use lib.Pow.{pow-pos}
 use Rattle.digits.specs.Digits.{minus}
 use Rattle.digits.proofs.Two.{one-lt-two, minus-two}
@@ -17,11 +15,11 @@ use Rattle.linear.specs.Unique.{Only, One}
 use Rattle.linear.proofs.Prime.{two}
 use Rattle.net.specs.Generators.{Below, Valid}
 use Rattle.net.specs.Sequence.{Sequence, column, row, VisitIn}
-use Rattle.net.specs.Finish.{Finish, plain, shift, Lawful}
-use Rattle.net.specs.Shape.{Shape, determinant, Passes}
-use Rattle.net.specs.Check.{check, passed, refused}
-use Rattle.net.specs.Query.{found, locate}
-use Rattle.net.specs.Net.{Net, StandardMatrices}
+use Rattle.net.specs.Finish.{plain, shift, Lawful}
+use Rattle.net.specs.Shape.{Shape, Passes}
+use Rattle.net.specs.Check.{check}
+use Rattle.net.specs.Query.{locate}
+use Rattle.net.specs.Net.{Net}
 use Rattle.net.specs.Answers.{Located, Checked as NetChecked}
 use Rattle.net.specs.Run.{Visit, visit, visits, run, hits}
 use Rattle.net.specs.Walk.{Walk, answers}
@@ -33,19 +31,18 @@ use Rattle.net.proofs.Check.{nonzero}
 use Rattle.net.proofs.Query.{locate-found}
 use Rattle.net.proofs.Run.{take-each}
 use Rattle.net.proofs.Theorem as net
-use Rattle.refusal.specs.Outcome.{accepted, not-net}
+use Rattle.refusal.specs.Outcome.{accepted}
 use Rattle.refusal.proofs.First.{first-accepted}
 use Rattle.plan.specs.declared.pair.Plan.{Plan}
 use Rattle.plan.specs.declared.pair.Shift.{Shift}
-use Rattle.plan.specs.Pair.{generators, sequence, standard-pair, largest-level, loaded}
-use Rattle.plan.specs.Fill.{filling, filled}
-use Rattle.plan.specs.Range.{index-bits, last-index}
+use Rattle.plan.specs.Pair.{generators, sequence, largest-level, loaded}
+use Rattle.plan.specs.Range.{last-index}
 use Rattle.plan.specs.Walk.{opening}
-use Rattle.plan.specs.Lists.{pointed, held, told}
+use Rattle.plan.specs.Lists.{told}
 use Rattle.plan.proofs.Loading.{loaded-accepted}
 use Rattle.plan.proofs.Lists.{filled-visits, opened, steps, walk-visits}
-use Rattle.stratify.specs.Answers.{of-verdict, of-location, checking, querying, unknown-level}
-use Rattle.stratify.specs.Theorem.{Words, Level, Cell, Related, Covered, Queried, Checked, Lists, StandardPair, Theorems}
+use Rattle.stratify.specs.Answers.{of-verdict, of-location, checking, querying, unknown-level, Words, Level, Cell}
+use Rattle.stratify.specs.Theorem.{Related, Covered, Queried, Checked, Lists, StandardPair, Theorems}
 use Rattle.stratify.proofs.Tests.{level-bounds}
 use Rattle.stratify.proofs.Outcomes.{querying-locate, checking-check, verdict-accepted, verdict-not-net, location-accepted, location-not-net}
 
@@ -73,14 +70,18 @@ module _ {P : Plan} (valid : Valid (generators P)) {M : ℕ} (fits : M ≤ large
         querying-locate P s level m a c r k known own
         ∙ ap (of-location m a) (locate-found (generators P) (shift 2 (s .x) (s .y)) m a k c r i odd only)
 
+    -- in base two a difference is an exclusive or
+    as-xor : (c r u v p : ℕ) → Only (VisitIn (plain (generators P)) m a 0 (minus 2 c u) (minus 2 r v)) p
+        → Only (VisitIn (plain (generators P)) m a 0 (bitXor c u) (bitXor r v)) p
+    as-xor c r u v p only = rw (← minus-two c u, ← minus-two r v) only
+
     relation : (p : ℕ) × Related P s m a k c r p
     relation =
-        let (p, related) = N .stratified m a (cell .size) (cell .wide) .relation (s .x) (s .y) (words .x) (words .y) k c r (cell .column) (cell .row) in (
+        let related-in = N .stratified m a (cell .size) (cell .wide) .relation (s .x) (s .y) (words .x) (words .y) k c r in
+        let (p, related) = related-in (cell .column) (cell .row) in (
           p,
           record {
-            plain-visit = subst (λ (u : ℕ). Only (VisitIn (plain (generators P)) m a 0 u (bitXor r (row S (m - a) (k * 2 ^ m)))) p)
-                (minus-two c (column S a (k * 2 ^ m)))
-                (subst (λ (v : ℕ). Only (VisitIn (plain (generators P)) m a 0 (minus 2 c (column S a (k * 2 ^ m))) v) p) (minus-two r (row S (m - a) (k * 2 ^ m))) (related .plain-visit));
+            plain-visit = as-xor c r (column S a (k * 2 ^ m)) (row S (m - a) (k * 2 ^ m)) p (related .plain-visit);
             block-visit = related .block-visit;
             answer = answered (k * 2 ^ m + p) (related .block-visit);
           },
@@ -111,7 +112,8 @@ module _ {P : Plan} (valid : Valid (generators P)) {M : ℕ} (fits : M ≤ large
     one-visit = one-visit;
     relation = relation;
     points = one-hit;
-    fills = λ s words m a k c r cell xs ys e long. hit-in s words m a k c r cell _ (length xs) (filled-visits (sequence P s) (k * 2 ^ m) xs ys e) long;
+    fills = λ s words m a k c r cell xs ys e.
+        hit-in s words m a k c r cell _ (length xs) (filled-visits (sequence P s) (k * 2 ^ m) xs ys e);
     walks = walk-hit;
   }
 
@@ -159,8 +161,10 @@ checked words below long {level} known = record {
   accepted-iff = (λ e. C .passed-iff .0 (verdict-accepted is .0 e), λ p. verdict-accepted is .1 (C .passed-iff .1 p));
   even-iff = (λ ne. C .zero-iff .0 (λ e. ne (verdict-accepted is .1 e)), λ h e. C .zero-iff .1 h (verdict-accepted is .0 e));
   crowded-iff = (λ ne. C .crowded-iff .0 (λ e. ne (verdict-accepted is .1 e)), λ h e. C .crowded-iff .1 h (verdict-accepted is .0 e));
-  refusal-iff = λ m a j. (λ e. C .refused-iff m a j .0 (verdict-not-net is m a j .0 e), λ h. verdict-not-net is m a j .1 (C .refused-iff m a j .1 h));
-  refusal-even-iff = λ m a j. (λ e. C .refused-zero-iff m a j .0 (verdict-not-net is m a j .0 e), λ h. verdict-not-net is m a j .1 (C .refused-zero-iff m a j .1 h));
+  refusal-iff = λ m a j.
+      (λ e. C .refused-iff m a j .0 (verdict-not-net is m a j .0 e), λ h. verdict-not-net is m a j .1 (C .refused-iff m a j .1 h));
+  refusal-even-iff = λ m a j.
+      (λ e. C .refused-zero-iff m a j .0 (verdict-not-net is m a j .0 e), λ h. verdict-not-net is m a j .1 (C .refused-zero-iff m a j .1 h));
 }
   where
     C : NetChecked (generators (loaded words)) level

@@ -1,7 +1,7 @@
 -- What the check and the query answer.
 use mathlib.Core.Bool.{_||_}
 use mathlib.Core.List.{List, [], _∷_}
-use Prim.Native.Nat.{ℕ, _-_, _^_}
+use Prim.Native.Nat.{ℕ, _-_, _^_, _≤_, _<_}
 use lib.Dec.{leb, ltb}
 use Rattle.net.specs.Finish.{shift}
 use Rattle.net.specs.Check.{Verdict, passed, refused, check}
@@ -50,3 +50,23 @@ querying P s level m a c r k =
 abbrev pub of-located : Located → Outcome ℕ
 of-located (located.Found i) = accepted i
 of-located (located.Refused r) = of-refusal r
+
+-- ---- what the refusals let through
+
+-- 2: a known level
+pub record Level (level : ℕ) : Type 0 where
+  pub positive : 1 ≤ level
+  pub known : level ≤ largest-level
+
+-- 4, 5, 6, 7: column c and row r of the shape (m, a), of a size within M, in block k
+pub record Cell (M m a k c r : ℕ) : Type 0 where
+  pub size : m ≤ M
+  pub wide : a ≤ m
+  pub column : c < 2 ^ a
+  pub row : r < 2 ^ (m - a)
+  pub block : k < 2 ^ (index-bits - m)
+
+-- and a shift of words, as the code's is
+pub record Words (s : Shift) : Type 0 where
+  pub x : s .x < 2 ^ 32
+  pub y : s .y < 2 ^ 32

@@ -25,27 +25,7 @@ use Rattle.plan.specs.Fill.{filling, filled}
 use Rattle.plan.specs.Range.{index-bits, last-index}
 use Rattle.plan.specs.Walk.{opening}
 use Rattle.plan.specs.Lists.{pointed, held, told}
-use Rattle.stratify.specs.Answers.{checking, querying}
-
--- ---- what the code's types hold
-
--- a shift of words
-pub record Words (s : Shift) : Type 0 where
-  pub x : s .x < 2 ^ 32
-  pub y : s .y < 2 ^ 32
-
--- a level that 2 lets through
-pub record Level (level : ℕ) : Type 0 where
-  pub positive : 1 ≤ level
-  pub known : level ≤ largest-level
-
--- column c and row r are a cell of the shape (m, a), of a size within M, and k is a block: what 4, 5, 6 and 7 let through
-pub record Cell (M m a k c r : ℕ) : Type 0 where
-  pub size : m ≤ M
-  pub wide : a ≤ m
-  pub column : c < 2 ^ a
-  pub row : r < 2 ^ (m - a)
-  pub block : k < 2 ^ (index-bits - m)
+use Rattle.stratify.specs.Answers.{Words, Level, Cell, checking, querying}
 
 -- ---- 1, 2: one visit in every cell of every shape, and its relation to the plain run
 

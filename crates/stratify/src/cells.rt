@@ -1,13 +1,13 @@
 // The query of a cell: the one index of a block that lies in it.
 ghost use mathlib.Core.Path.{_≡_};
-ghost use Prim.Native.Nat.{_-_, _/_, _^_, _≤_, _<_};
+ghost use Prim.Native.Nat.{_-_, _/_, _^_, _≤_};
 ghost use Rattle.digits.specs.Digits.{plus, minus};
-ghost use Rattle.net.specs.Generators.{product};
+ghost use Rattle.net.specs.Generators.{Valid, product};
 ghost use Rattle.net.specs.Finish.{shift, shifted};
 ghost use Rattle.net.specs.Query.{locate};
 ghost use Rattle.net.specs.Elimination.{plain-interval};
 ghost use Rattle.plan.specs.Pair.{pair};
-ghost use Rattle.stratify.specs.Answers.{of-located, of-location, querying};
+ghost use Rattle.stratify.specs.Answers.{Cell, of-located, of-location, querying};
 use crate::bits::join;
 use crate::bits::top;
 use crate::elimination::eliminate;
@@ -47,7 +47,7 @@ fn plain_cell(
     row: u32,
     block: Block,
 ) -> u32
-    requires { ⌜ (a ≤ m) × (m ≤ 32) × (column < 2 ^ a) × (row < 2 ^ (m - a)) × (block < 2 ^ (32 - m)) ⌝ }
+    requires { ⌜ Valid (pair x y) × Cell 32 m a block column row ⌝ }
     ensures { λ r. ⌜ r ≡ plain-interval (shifted (pair x y) s t) m a block column row ⌝ }
 {
     let first = join(block, 0, m);
@@ -68,7 +68,7 @@ fn find(
     row: u32,
     block: Block,
 ) -> Located
-    requires { ⌜ (a ≤ m) × (m ≤ 32) × (column < 2 ^ a) × (row < 2 ^ (m - a)) × (block < 2 ^ (32 - m)) ⌝ }
+    requires { ⌜ Valid (pair x y) × Cell 32 m a block column row ⌝ }
     ensures { λ r. ⌜ of-located r ≡ of-location m a (locate (pair x y) (shift 2 s t) m a block column row) ⌝ }
 {
     let e = eliminate(x, y, m, a);

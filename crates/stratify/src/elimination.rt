@@ -1,6 +1,6 @@
 // Elimination for a shape: the columns inserted one after the other into a basis, on arrays of its own.
-ghost use mathlib.Core.Path.{_≡_};
 ghost use Prim.Native.Nat.{_≤_};
+ghost use Rattle.net.specs.Shape.{Shape};
 ghost use Rattle.plan.specs.Pair.{pair};
 ghost use Rattle.stratify.specs.Basis.{Sweeps, Eliminates};
 use crate::bits::join;
@@ -40,7 +40,7 @@ pub struct Elimination {
 
 // The columns of the shape (m, a), one after the other.
 pub fn eliminate(x: [u32; 32], y: [u32; 32], m: u32, a: u32) -> Elimination
-    requires { ⌜ (a ≤ m) × (m ≤ 32) ⌝ }
+    requires { ⌜ Shape (pair x y) m a ⌝ }
     ensures { λ r. ⌜ Eliminates (pair x y) m a (r .bad) (r .words) (r .indexes) ⌝ }
 {
     let n = m as usize;

@@ -1,6 +1,7 @@
 // The check of generator matrices: the shapes in their order, up to the first that is no net.
 ghost use mathlib.Core.Path.{_≡_};
 ghost use Prim.Native.Nat.{_≤_};
+ghost use Rattle.net.specs.Generators.{Valid};
 ghost use Rattle.net.specs.Check.{check};
 ghost use Rattle.refusal.specs.Refusal.{of-judgement};
 ghost use Rattle.plan.specs.Pair.{pair};
@@ -13,7 +14,7 @@ use refusal::Refusal;
 
 // The first bad shape, m rising and then a rising.
 fn scan(x: [u32; 32], y: [u32; 32], level: u32) -> Judgement
-    requires { ⌜ level ≤ 32 ⌝ }
+    requires { ⌜ Valid (pair x y) × (level ≤ 32) ⌝ }
     ensures { λ r. ⌜ of-judgement r ≡ of-verdict (check (pair x y) level) ⌝ }
 {
     let mut m = 1u32;

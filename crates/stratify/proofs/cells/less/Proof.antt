@@ -16,7 +16,8 @@ top-requires c κs = search needs
 returns : tie.Need-returns
 returns c =
     let a = c .before .before .args in
-    sym (minus-two (a .asked) (c .top .result)) ∙ ap (minus 2 (a .asked)) (c .top .ensures ∙ ap (λ (w : ℕ). w / 2 ^ (32 - a .t)) (c .before .coordinate .ensures))
+    sym (minus-two (a .asked) (c .top .result))
+    ∙ ap (minus 2 (a .asked)) (c .top .ensures ∙ ap (λ (w : ℕ). w / 2 ^ (32 - a .t)) (c .before .coordinate .ensures))
 
 pub less-spec : {M : Type 1} → statement M
 less-spec = tie.close (tie.spec coordinate-requires top-requires returns)

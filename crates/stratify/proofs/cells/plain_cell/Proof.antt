@@ -2,46 +2,46 @@
 use mathlib.Core.Path.{_≡_, ap, ap₂, _∙_}
 use Prim.Native.Nat.{ℕ, _+_, _-_, _*_, _/_, _^_}
 use native.Mathlib.Omega.{arith}
-use lib.ListN.{getD}
+use borrow.Author.Needs.{needs}
 use lib.Pow.{pow-pos}
-use mir.Syntax.{w32}
-use mir.Val.{Fits}
 use Rattle.digits.specs.Digits.{plus, minus}
+use Rattle.digits.proofs.Two.{one-lt-two}
 use Rattle.net.specs.Generators.{product}
 use Rattle.net.specs.Finish.{shifted}
 use Rattle.net.specs.Shape.{Shape}
 use Rattle.net.specs.Elimination.{serial, plain-interval}
-use Rattle.plan.specs.Pair.{pair}
 use Rattle.net.proofs.Interval.{block-lt}
-use Rattle.digits.proofs.Two.{one-lt-two}
-use Rattle.stratify.proofs.Refinement.{shape-of}
+use Rattle.plan.specs.Pair.{pair}
 use Rattle.stratify.proofs.Cell.{cell-lt}
-use borrow.Author.Needs.{needs}
 use Rattle.stratify.proofs.cells.plain_cell.Statement.{statement}
 use Rattle.stratify.proofs.cells.plain_cell.Tie as tie
 
 shape : (s : tie.Start) → Shape (pair (s .args .x) (s .args .y)) (s .args .m) (s .args .a)
-shape s =
-    shape-of (s .args .x) (s .args .y)
-    (λ t. let f : Fits w32 (getD (s .args .x) t 0) = search needs in f .fits)
-    (λ t. let f : Fits w32 (getD (s .args .y) t 0) = search needs in f .fits)
-    (s .args .m) (s .args .a) (s .pre .0) (s .pre .1)
+shape s = record { valid = s .pre .0; wide = s .pre .1 .wide; fits = s .pre .1 .size }
 
 first : (c : tie.After-join) → c .join .result ≡ c .before .args .block * 2 ^ c .before .args .m
 first c = omega arith
 
 -- the number that the code joins
+abbrev asked : tie.Start → ℕ
+asked s =
+    let a = s .args in
+    plain-interval (shifted (pair (a .x) (a .y)) (a .s) (a .t)) (a .m) (a .a) (a .block) (a .column) (a .row)
+
 cell : (c : tie.After-less2) → let s = c .before .before .before in
-    c .before .less .result * 2 ^ (s .args .m - s .args .a) + c .less2 .result ≡ plain-interval (shifted (pair (s .args .x) (s .args .y)) (s .args .s) (s .args .t)) (s .args .m) (s .args .a) (s .args .block) (s .args .column) (s .args .row)
+    c .before .less .result * 2 ^ (s .args .m - s .args .a) + c .less2 .result ≡ asked s
 unfolding serial
 cell c =
     let a = c .before .before .before .args in
+    let at = first (c .before .before) in
     ap₂ (λ (u v : ℕ). u * 2 ^ (a .m - a .a) + v)
-    (c .before .less .ensures ∙ ap (λ (i : ℕ). minus 2 (a .column) (plus 2 (product 2 (a .x) i) (a .s) / 2 ^ (32 - a .a))) (first (c .before .before)))
-    (c .less2 .ensures ∙ ap (λ (i : ℕ). minus 2 (a .row) (plus 2 (product 2 (a .y) i) (a .t) / 2 ^ (32 - (a .m - a .a)))) (first (c .before .before)))
+    (c .before .less .ensures ∙ ap (λ (i : ℕ). minus 2 (a .column) (plus 2 (product 2 (a .x) i) (a .s) / 2 ^ (32 - a .a))) at)
+    (c .less2 .ensures ∙ ap (λ (i : ℕ). minus 2 (a .row) (plus 2 (product 2 (a .y) i) (a .t) / 2 ^ (32 - (a .m - a .a)))) at)
 
 join-requires : tie.Need-join-requires
-join-requires c κs = (c .pre .1, block-lt one-lt-two 32 (c .args .m) (c .args .block) 0 (c .pre .1) (c .pre .4) (pow-pos (c .args .m)))
+join-requires c κs =
+    let q = c .pre .1 in
+    (q .size, block-lt one-lt-two 32 (c .args .m) (c .args .block) 0 (q .size) (q .block) (pow-pos (c .args .m)))
 
 less-requires : tie.Need-less-requires
 less-requires c κs = search needs
@@ -58,20 +58,13 @@ sub-join c = search needs
 join-requires-2 : tie.Need-join-requires-2
 join-requires-2 c κs =
     let s = c .before .before .before in
-    let small = cell-lt (shape s) (s .args .s) (s .args .t) (s .fits .s .fits) (s .fits .t .fits) (s .args .block) (s .args .column) (s .args .row) (s .pre .2) (s .pre .3) in
+    let a = s .args in
+    let small =
+    cell-lt (shape s) (a .s) (a .t) (s .fits .s .fits) (s .fits .t .fits) (a .block) (a .column) (a .row) (s .pre .1 .column) (s .pre .1 .row) in
     (omega arith, rw (cell c) small)
 
 returns : tie.Need-returns
 returns c = c .join2 .ensures ∙ cell (c .before)
 
 pub plain-cell-spec : {M : Type 1} → statement M
-plain-cell-spec =
-    tie.close
-    (tie.spec
-    join-requires
-    less-requires
-    sub-less
-    less-requires-2
-    sub-join
-    join-requires-2
-    returns)
+plain-cell-spec = tie.close (tie.spec join-requires less-requires sub-less less-requires-2 sub-join join-requires-2 returns)

@@ -1,16 +1,19 @@
 -- `stratify::cells::query` meets its contract: its tests are those of the definition, in its order. Assumes nothing.
 use mathlib.Core.Path.{_≡_, sym, _∙_}
 use mathlib.Core.List.{List, []}
-use Prim.Native.Nat.{ℕ, _-_, _^_, _≤_}
+use Prim.Native.Nat.{ℕ, _-_, _≤_}
 use native.Mathlib.Omega.{arith}
 use borrow.Author.Tests.{lt-ltb, le-ltb, le-leb, lt-leb}
 use borrow.Author.Needs.{needs}
-use lib.ListN.{drop}
+use lib.ListN.{getD, drop}
+use mir.Syntax.{w32}
+use mir.Val.{Fits}
 use Rattle.net.specs.Finish.{shift}
 use Rattle.net.specs.Query.{locate}
 use Rattle.refusal.specs.Outcome.{Outcome, Test, first}
 use Rattle.refusal.proofs.First.{first-none, first-refuses, first-passes}
 use Rattle.plan.specs.Pair.{generators}
+use Rattle.plan.proofs.Laws.{words-valid}
 use Rattle.stratify.specs.Answers.{of-location, query-tests, querying}
 use Rattle.stratify.proofs.Tests.{below-limit, past-limit, level-bounds, column-past, row-past, cell-within}
 use Rattle.stratify.proofs.cells.query.Statement.{statement}
@@ -103,8 +106,19 @@ returns-6 c =
 find-requires : tie.Need-find-requires
 find-requires c κs =
     let d = c .before .before in
-    let known = level-within (d .before .before .before) in
-    (omega arith, omega arith, below-limit _ _ (d .before .before .if4 .left), below-limit _ _ (d .before .if5 .left), below-limit _ _ (d .if6 .left))
+    let s = d .before .before .before .before .before .before .before in
+    let known = level-within (d .before .before .before) in (
+      words-valid (s .args .plan .x) (s .args .plan .y)
+          (λ t. let f : Fits w32 (getD (s .args .plan .x) t 0) = search needs in f .fits)
+          (λ t. let f : Fits w32 (getD (s .args .plan .y) t 0) = search needs in f .fits),
+      record {
+        size = omega arith;
+        wide = omega arith;
+        column = below-limit _ _ (d .before .before .if4 .left);
+        row = below-limit _ _ (d .before .if5 .left);
+        block = below-limit _ _ (d .if6 .left);
+      },
+    )
 
 returns-7 : tie.Need-returns-7
 returns-7 c =

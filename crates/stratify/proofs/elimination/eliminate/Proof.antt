@@ -3,18 +3,13 @@ use mathlib.Core.Path.{_≡_, refl, sym, ap, ap₂, _∙_, subst}
 use Prim.Native.Nat.{ℕ, _+_, _-_, _*_, _%_, _^_, _≤_, _<_}
 use native.Mathlib.Nat.{one-mul, mod-eq-of-lt}
 use native.Mathlib.Omega.{arith}
-use borrow.Author.Needs.{needs}
-use lib.ListN.{getD}
 use lib.Pow.{pow-lt, pow-mono}
-use mir.Syntax.{w32}
-use mir.Val.{Fits}
 use Rattle.net.specs.Finish.{plain}
-use Rattle.net.specs.Shape.{Shape}
 use Rattle.net.specs.Elimination.{interval}
 use Rattle.net.proofs.Interval.{interval-additive, interval-lt}
 use Rattle.plan.specs.Pair.{pair}
 use Rattle.stratify.specs.Basis.{Sweeps}
-use Rattle.stratify.proofs.Refinement.{Going, going-none, going-kernel, going-more, interval-at, eliminates-kernel, eliminates-basis, shape-of}
+use Rattle.stratify.proofs.Refinement.{Going, going-none, going-kernel, going-more, interval-at, eliminates-kernel, eliminates-basis}
 use Rattle.stratify.proofs.elimination.eliminate.Statement.{statement}
 use Rattle.stratify.proofs.elimination.eliminate.Tie as tie
 
@@ -24,34 +19,32 @@ Inv-loop m a x y n words₀ indexes₀ c₀ words indexes c = (c ≤ m) × Going
 abbrev μ-loop : tie.MeasureT-loop
 μ-loop m a x y n words₀ indexes₀ c₀ words indexes c = m - c
 
-shape : (s : tie.Start Inv-loop μ-loop) → Shape (pair (s .args .t1) (s .args .t2)) (s .args .m) (s .args .a)
-shape s =
-    shape-of (s .args .t1) (s .args .t2)
-    (λ t. let f : Fits w32 (getD (s .args .t1) t 0) = search needs in f .fits)
-    (λ t. let f : Fits w32 (getD (s .args .t2) t 0) = search needs in f .fits)
-    (s .args .m) (s .args .a) (s .pre .0) (s .pre .1)
+-- the interval of an index in the plain sequence
+abbrev L : tie.Start Inv-loop μ-loop → ℕ → ℕ
+L s = interval (plain (pair (s .args .t1) (s .args .t2))) (s .args .m) (s .args .a)
 
--- the code's cell of a column is the column's interval
-cell : (c : tie.After-top2 Inv-loop μ-loop) → let s = c .before .before .before .before in let l = c .before .before .before .loop in
-    c .before .top .result * 2 ^ (s .args .m - s .args .a) + c .top2 .result ≡ interval (plain (pair (s .args .t1) (s .args .t2))) (s .args .m) (s .args .a) (2 ^ l .c)
+-- the code's cell of a column is the interval of the column's index
+cell : (c : tie.After-top2 Inv-loop μ-loop) → let s = c .before .before .before .before in
+    c .before .top .result * 2 ^ (s .args .m - s .args .a) + c .top2 .result ≡ L s (2 ^ c .before .before .before .loop .c)
 cell c =
     let s = c .before .before .before .before in
-    let l = c .before .before .before .loop in
     ap₂ (λ (u v : ℕ). u * 2 ^ (s .args .m - s .args .a) + v) (c .before .top .ensures) (c .top2 .ensures)
-    ∙ sym (interval-at (shape s) (l .c))
+    ∙ sym (interval-at (s .pre) (c .before .before .before .loop .c))
 
 -- the code's `1 << c` is the column's index
 own : (c : ℕ) → c < 32 → 1 * 2 ^ c % 2 ^ 32 ≡ 2 ^ c
 own c h = ap (λ (x : ℕ). x % 2 ^ 32) (one-mul (2 ^ c)) ∙ mod-eq-of-lt (pow-lt h)
 
-swept : (c : tie.After-sweep Inv-loop μ-loop) → let s = c .before .before .before .before .before .before in let l = c .before .before .before .before .before .loop in
-    Sweeps (l .words) (l .indexes) (l .c) (interval (plain (pair (s .args .t1) (s .args .t2))) (s .args .m) (s .args .a) (2 ^ l .c)) (2 ^ l .c) (c .sweep .result .word) (c .sweep .result .index)
+swept : (c : tie.After-sweep Inv-loop μ-loop) → let l = c .before .before .before .before .before in
+    Sweeps (l .loop .words) (l .loop .indexes) (l .loop .c) (L (l .before) (2 ^ l .loop .c)) (2 ^ l .loop .c)
+    (c .sweep .result .word) (c .sweep .result .index)
 swept c =
     let l = c .before .before .before .before .before .loop in
+    let r = c .sweep .result in
     let v : c .before .join .result ≡ _ = c .before .join .ensures ∙ cell (c .before .before) in
     let k : 1 * 2 ^ l .c % 2 ^ 32 ≡ 2 ^ l .c = own (l .c) (omega arith) in
-    subst (λ (z : ℕ). Sweeps (l .words) (l .indexes) (l .c) z (2 ^ l .c) (c .sweep .result .word) (c .sweep .result .index)) v
-    (subst (λ (z : ℕ). Sweeps (l .words) (l .indexes) (l .c) (c .before .join .result) z (c .sweep .result .word) (c .sweep .result .index)) k (c .sweep .ensures))
+    subst (λ (z : ℕ). Sweeps (l .words) (l .indexes) (l .c) z (2 ^ l .c) (r .word) (r .index)) v
+    (subst (λ (z : ℕ). Sweeps (l .words) (l .indexes) (l .c) (c .before .join .result) z (r .word) (r .index)) k (c .sweep .ensures))
 
 loop-holds : tie.Need-loop-holds Inv-loop μ-loop
 loop-holds c = (omega arith, going-none _ _ _ _ refl refl)
@@ -83,8 +76,8 @@ sub-join c = omega arith
 join-requires : tie.Need-join-requires Inv-loop μ-loop
 join-requires c κs =
     let s = c .before .before .before .before in
-    let small = interval-lt (shape s) (2 ^ c .before .before .before .loop .c) in
-    let wide : 2 ^ s .args .m ≤ 2 ^ 32 = pow-mono (s .pre .1) in
+    let small = interval-lt (s .pre) (2 ^ c .before .before .before .loop .c) in
+    let wide : 2 ^ s .args .m ≤ 2 ^ 32 = pow-mono (s .pre .fits) in
     let e = cell c in
     (omega arith, omega arith)
 
@@ -102,8 +95,8 @@ returns c =
     let s = c .before .before .before .before .before .before .before in
     let l = c .before .before .before .before .before .before .loop in
     let r = c .before .sweep .result in
-    eliminates-kernel (shape s) (l .words) (l .indexes) (r .index)
-    (going-kernel (interval-additive (shape s)) (l .inv .1) (omega arith) (r .word) (r .index) (swept (c .before)) (c .if1 .taken))
+    eliminates-kernel (s .pre) (l .words) (l .indexes) (r .index)
+    (going-kernel (interval-additive (s .pre)) (l .inv .1) (omega arith) (r .word) (r .index) (swept (c .before)) (c .if1 .taken))
 
 mul-words : tie.Need-mul-words Inv-loop μ-loop
 mul-words c = omega arith
@@ -128,10 +121,11 @@ loop-again c =
     let s = c .before .before .before .before .before .before .before in
     let l = c .before .before .before .before .before .before .loop in
     let r = c .before .sweep .result in
-    (omega arith, going-more (interval-additive (shape s)) (l .inv .1) (omega arith) (r .word) (r .index) (swept (c .before)) (c .if1 .left) (omega arith))
+    let more = going-more (interval-additive (s .pre)) (l .inv .1) (omega arith) (r .word) (r .index) (swept (c .before)) in
+    (omega arith, more (c .if1 .left) (omega arith))
 
 returns-2 : tie.Need-returns-2 Inv-loop μ-loop
-returns-2 c = let l = c .before .loop in eliminates-basis (shape (c .before .before)) (l .words) (l .indexes) (l .c) (omega arith) (l .inv .1)
+returns-2 c = let l = c .before .loop in eliminates-basis (c .before .before .pre) (l .words) (l .indexes) (l .c) (omega arith) (l .inv .1)
 
 pub eliminate-spec : {M : Type 1} → statement M
 eliminate-spec =

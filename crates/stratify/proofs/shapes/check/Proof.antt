@@ -3,15 +3,17 @@ use mathlib.Core.Path.{_≡_, sym, ap, _∙_}
 use mathlib.Core.Bool.{not}
 use mathlib.Core.List.{[], _∷_}
 use lib.Dec.{eqb}
-use lib.ListN.{length}
+use lib.ListN.{length, getD}
+use mir.Syntax.{w32}
+use mir.Val.{Fits}
 use borrow.Author.Needs.{needs}
 use Rattle.net.specs.Check.{check}
 use Rattle.refusal.specs.Outcome.{Outcome, first}
 use Rattle.refusal.specs.Refusal.{of-judgement}
-use Rattle.refusal.specs.declared.Judgement.{Judgement}
 use Rattle.refusal.proofs.First.{first-none, first-refuses, first-passes, alone-refuses, alone-passes}
 use Rattle.plan.specs.declared.pair.Plan.{Plan}
 use Rattle.plan.specs.Pair.{generators, loaded}
+use Rattle.plan.proofs.Laws.{words-valid}
 use Rattle.stratify.specs.Answers.{of-verdict, unknown-level, checking}
 use Rattle.stratify.proofs.Tests.{level-bounds}
 use Rattle.stratify.proofs.shapes.check.Statement.{statement}
@@ -51,12 +53,18 @@ unknown-level-requires c κs = search needs
 returns-2 : tie.Need-returns-2
 returns-2 c =
     let told = c .before .before in
-    sym (pair-passed told ∙ first-refuses (verdict (told .before .before .before .before)) 2 [] (sym (c .before .unknown-level .ensures) ∙ c .if1 .taken))
+    let unknown = sym (c .before .unknown-level .ensures) ∙ c .if1 .taken in
+    sym (pair-passed told ∙ first-refuses (verdict (told .before .before .before .before)) 2 [] unknown)
 
 scan-requires : tie.Need-scan-requires
 scan-requires c κs =
     let d = c .before .before in
-    level-bounds _ (sym (d .before .unknown-level .ensures) ∙ d .if1 .left) .1
+    let P = d .before .before .before .before .load .result .plan in (
+      words-valid (P .x) (P .y)
+          (λ t. let f : Fits w32 (getD (P .x) t 0) = search needs in f .fits)
+          (λ t. let f : Fits w32 (getD (P .y) t 0) = search needs in f .fits),
+      level-bounds _ (sym (d .before .unknown-level .ensures) ∙ d .if1 .left) .1,
+    )
 
 returns-3 : tie.Need-returns-3
 returns-3 c =

@@ -2,17 +2,11 @@
 use mathlib.Core.Path.{_≡_, sym, ap}
 use Prim.Native.Nat.{_+_, _-_, _*_, _≤_, _<_}
 use native.Mathlib.Omega.{arith}
-use borrow.Author.Needs.{needs}
-use lib.ListN.{getD}
-use mir.Syntax.{w32}
-use mir.Val.{Fits}
 use Rattle.linear.proofs.Prime.{two}
-use Rattle.net.specs.Generators.{Valid}
 use Rattle.net.specs.Check.{Cleared}
 use Rattle.net.proofs.Check.{scan-none, scan-next, scan-row, scan-all, scan-stops}
 use Rattle.plan.specs.Pair.{pair}
 use Rattle.stratify.specs.Answers.{of-verdict}
-use Rattle.stratify.proofs.Refinement.{valid-of}
 use Rattle.stratify.proofs.shapes.scan.Statement.{statement}
 use Rattle.stratify.proofs.shapes.scan.Tie as tie
 
@@ -22,24 +16,20 @@ Inv-loop x y level m₀ a₀ m a = (0 < m) × (a ≤ m) × (m ≤ level + 1) × 
 abbrev μ-loop : tie.MeasureT-loop
 μ-loop x y level m₀ a₀ m a = (33 - m) * 34 + (m - a)
 
-valid : (s : tie.Start Inv-loop μ-loop) → Valid (pair (s .args .x) (s .args .y))
-valid s =
-    valid-of (s .args .x) (s .args .y)
-    (λ t. let f : Fits w32 (getD (s .args .x) t 0) = search needs in f .fits)
-    (λ t. let f : Fits w32 (getD (s .args .y) t 0) = search needs in f .fits)
-
 loop-holds : tie.Need-loop-holds Inv-loop μ-loop
 loop-holds c = (omega arith, omega arith, omega arith, scan-none _)
 
 eliminate-requires : tie.Need-eliminate-requires Inv-loop μ-loop
-eliminate-requires c κs = (omega arith, omega arith)
+eliminate-requires c κs = record { valid = c .before .before .pre .0; wide = omega arith; fits = omega arith }
 
 returns : tie.Need-returns Inv-loop μ-loop
 returns c =
     let s = c .before .before .before .before in
     let l = c .before .before .before .loop in
     let e = c .before .eliminate in
-    sym (ap of-verdict (scan-stops (valid s) two (s .args .level) (s .pre) (l .m) (l .a) (e .result .bad) (l .inv .0) (omega arith) (l .inv .1) (l .inv .3) (e .ensures .least (c .if1 .taken))))
+    sym (ap of-verdict
+    (scan-stops (s .pre .0) two (s .args .level) (s .pre .1) (l .m) (l .a) (e .result .bad) (l .inv .0) (omega arith) (l .inv .1) (l .inv .3)
+    (e .ensures .least (c .if1 .taken))))
 
 add-a : tie.Need-add-a Inv-loop μ-loop
 add-a c = omega arith
@@ -71,7 +61,7 @@ returns-2 : tie.Need-returns-2 Inv-loop μ-loop
 returns-2 c =
     let s = c .before .before in
     let l = c .before .loop in
-    sym (ap of-verdict (scan-all (valid s) two (s .args .level) (s .pre) (l .m) (l .a) (omega arith) (l .inv .3)))
+    sym (ap of-verdict (scan-all (s .pre .0) two (s .args .level) (s .pre .1) (l .m) (l .a) (omega arith) (l .inv .3)))
 
 pub scan-spec : {M : Type 1} → statement M
 scan-spec =
