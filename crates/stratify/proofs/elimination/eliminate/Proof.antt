@@ -1,12 +1,12 @@
 -- `stratify::elimination::eliminate` meets its contract. Assumes nothing.
-use mathlib.Core.Path.{_≡_, refl, sym, ap, ap₂, _∙_, subst}
-use Prim.Native.Nat.{ℕ, _+_, _-_, _*_, _%_, _^_, _≤_, _<_}
-use native.Mathlib.Nat.{one-mul, mod-eq-of-lt}
+use mathlib.Core.Path.{_≡_, refl, sym, ap₂, _∙_, subst}
+use Prim.Native.Nat.{ℕ, _+_, _-_, _*_, _%_, _^_, _≤_}
 use native.Mathlib.Omega.{arith}
-use lib.Pow.{pow-lt, pow-mono}
+use lib.Pow.{pow-mono}
 use Rattle.net.specs.Finish.{plain}
 use Rattle.net.specs.Elimination.{interval}
 use Rattle.net.proofs.Interval.{interval-additive, interval-lt}
+use Rattle.word.proofs.Turn.{one-shifted}
 use Rattle.plan.specs.Pair.{pair}
 use Rattle.stratify.specs.Basis.{Sweeps}
 use Rattle.stratify.proofs.Refinement.{Going, going-none, going-kernel, going-more, interval-at, eliminates-kernel, eliminates-basis}
@@ -31,10 +31,6 @@ cell c =
     ap₂ (λ (u v : ℕ). u * 2 ^ (s .args .m - s .args .a) + v) (c .before .top .ensures) (c .top2 .ensures)
     ∙ sym (interval-at (s .pre) (c .before .before .before .loop .c))
 
--- the code's `1 << c` is the column's index
-own : (c : ℕ) → c < 32 → 1 * 2 ^ c % 2 ^ 32 ≡ 2 ^ c
-own c h = ap (λ (x : ℕ). x % 2 ^ 32) (one-mul (2 ^ c)) ∙ mod-eq-of-lt (pow-lt h)
-
 swept : (c : tie.After-sweep Inv-loop μ-loop) → let l = c .before .before .before .before .before in
     Sweeps (l .loop .words) (l .loop .indexes) (l .loop .c) (L (l .before) (2 ^ l .loop .c)) (2 ^ l .loop .c)
     (c .sweep .result .word) (c .sweep .result .index)
@@ -42,7 +38,7 @@ swept c =
     let l = c .before .before .before .before .before .loop in
     let r = c .sweep .result in
     let v : c .before .join .result ≡ _ = c .before .join .ensures ∙ cell (c .before .before) in
-    let k : 1 * 2 ^ l .c % 2 ^ 32 ≡ 2 ^ l .c = own (l .c) (omega arith) in
+    let k : 1 * 2 ^ l .c % 2 ^ 32 ≡ 2 ^ l .c = one-shifted (l .c) (omega arith) in
     subst (λ (z : ℕ). Sweeps (l .words) (l .indexes) (l .c) z (2 ^ l .c) (r .word) (r .index)) v
     (subst (λ (z : ℕ). Sweeps (l .words) (l .indexes) (l .c) (c .before .join .result) z (r .word) (r .index)) k (c .sweep .ensures))
 

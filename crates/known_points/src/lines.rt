@@ -1,0 +1,122 @@
+// The sections that have a line for each number from 0 on.
+use crate::pairs;
+use crate::print;
+use plan::Plan;
+use plan::Shift;
+use stratify::Located;
+
+pub enum Section {
+    // The point of an index.
+    Standard,
+    StandardShifted,
+    Other,
+    OtherShifted,
+    // The check of the standard pair with a column of X, or of Y, replaced by 0, or one of X by the sum of those before it.
+    GapX,
+    GapY,
+    SumX,
+    // The query of a cell of the shape (m, a) in the block 0 or 5.
+    Cells { m: u32, a: u32 },
+    // The query of the first cell of the shape (32, a).
+    Largest,
+}
+
+pub fn lines(section: Section, count: u32) {
+    let mut i = 0u32;
+    while i < count {
+        line(section, i);
+        i += 1;
+    }
+}
+
+fn line(section: Section, i: u32) {
+    match section {
+        Section::Standard => standard_line(pairs::no_shift(), i),
+        Section::StandardShifted => standard_line(pairs::first_shift(), i),
+        Section::Other => other_line(pairs::no_shift(), i),
+        Section::OtherShifted => other_line(pairs::other_shift(), i),
+        Section::GapX => gap_line(b"gap-x ", 0, i),
+        Section::GapY => gap_line(b"gap-y ", 32, i),
+        Section::SumX => sum_line(i),
+        Section::Cells { m, a } => cell_line(m, a, i),
+        Section::Largest => query_line(pairs::other(), pairs::other_shift(), 32, 32, i, 0, 0, 0),
+    }
+}
+
+// The fast way, which is promised to be the matrix way.
+fn standard_line(shift: Shift, index: u32) {
+    print::number(index, b" ");
+    print::point_line(Plan::standard_point(shift, index));
+}
+
+fn other_line(shift: Shift, index: u32) {
+    let plan = pairs::other();
+    print::number(index, b" ");
+    print::point_line(plan.point(shift, index));
+}
+
+fn gap_line(name: &[u8], first: u32, c: u32) {
+    let mut words = pairs::standard_words();
+    words[((first as u64 + c as u64) % 64) as usize] = 0;
+    print::text(name);
+    print::number(c, b" 32 ");
+    print::judgement_line(stratify::check(&words, 32), b"passed");
+}
+
+// The sum without carries of the first c columns of the identity has the top c bits.
+fn sum_line(c: u32) {
+    let mut words = pairs::standard_words();
+    let at = c % 32;
+    words[at as usize] = ((4294967295u64 << (32 - at)) % 4294967296) as u32;
+    print::text(b"sum-x ");
+    print::number(c, b" 32 ");
+    print::judgement_line(stratify::check(&words, 32), b"passed");
+}
+
+// Cells column after column, and each in two blocks.
+fn cell_line(m: u32, a: u32, i: u32) {
+    if a > m {
+        return;
+    }
+    if m > 4 {
+        return;
+    }
+    let cell = i / 2;
+    let rows = 1u32 << (m - a);
+    let block = i % 2 * 5;
+    query_line(
+        pairs::other(),
+        pairs::other_shift(),
+        32,
+        m,
+        a,
+        cell / rows,
+        cell % rows,
+        block,
+    );
+}
+
+pub fn query_line(
+    plan: Plan,
+    shift: Shift,
+    level: u32,
+    m: u32,
+    a: u32,
+    column: u32,
+    row: u32,
+    block: u32,
+) {
+    print::number(m, b" ");
+    print::number(a, b" ");
+    print::number(column, b" ");
+    print::number(row, b" ");
+    print::number(block, b" ");
+    let answer = stratify::query(plan, shift, level, m, a, column, row, block);
+    match answer {
+        Located::Found(index) => {
+            print::text(b"found ");
+            print::number(index, b"\n");
+        }
+        Located::Refused(why) => print::refusal_line(why),
+    }
+}

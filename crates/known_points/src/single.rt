@@ -1,0 +1,158 @@
+// The lines that stand alone: checks and queries at their limits, fills and walks.
+use crate::lines::query_line;
+use crate::pairs;
+use crate::print;
+use plan::Opened;
+use plan::Plan;
+use plan::Point;
+use plan::Step;
+use plan::Walk;
+
+fn check_line(name: &[u8], words: &[u32], level: u32) {
+    print::text(name);
+    print::number(level, b" ");
+    print::judgement_line(stratify::check(words, level), b"passed");
+}
+
+pub fn checks() {
+    let standard = pairs::standard_words();
+    let other = pairs::other_words();
+    let zero = [0u32; 64];
+    print::text(b"check\n");
+    check_line(b"standard ", &standard, 0);
+    check_line(b"standard ", &standard, 1);
+    check_line(b"standard ", &standard, 32);
+    check_line(b"standard ", &standard, 33);
+    check_line(b"standard ", &standard, 4294967295);
+    check_line(b"other ", &other, 32);
+    twice_checks();
+    check_line(b"zero ", &zero, 1);
+}
+
+fn twice_checks() {
+    let twice = pairs::twice_words();
+    check_line(b"twice ", &twice, 1);
+    check_line(b"twice ", &twice, 2);
+    check_line(b"twice ", &twice, 32);
+}
+
+// 63 words, and 65.
+pub fn checks_of_length() {
+    let short = [0u32; 63];
+    let long = [0u32; 65];
+    check_line(b"short ", &short, 2);
+    check_line(b"long ", &long, 0);
+}
+
+pub fn queries() {
+    let shift = pairs::no_shift();
+    query_line(
+        pairs::other(),
+        pairs::other_shift(),
+        32,
+        16,
+        8,
+        200,
+        17,
+        65535,
+    );
+    query_line(pairs::twice(), shift, 2, 2, 1, 1, 0, 0);
+    query_line(Plan::standard(), shift, 33, 2, 1, 0, 0, 0);
+    query_line(Plan::standard(), shift, 0, 2, 1, 0, 0, 0);
+    query_line(Plan::standard(), shift, 2, 3, 1, 0, 0, 0);
+    query_line(Plan::standard(), shift, 2, 2, 3, 0, 0, 0);
+    query_line(Plan::standard(), shift, 2, 2, 1, 2, 0, 0);
+    query_line(Plan::standard(), shift, 2, 2, 1, 0, 2, 0);
+    query_line(Plan::standard(), shift, 32, 4, 1, 0, 0, 268435456);
+    query_line(Plan::standard(), shift, 32, 4, 1, 0, 0, 268435455);
+}
+
+// Fills both buffers from start on, and prints the answer.
+fn fill_line(start: u32, xs: &mut [u32], ys: &mut [u32]) {
+    print::number(start, b" ");
+    print::number((xs.len() % 4294967296) as u32, b" ");
+    let answer = plan::fill(pairs::other(), pairs::other_shift(), start, xs, ys);
+    print::judgement_line(answer, b"done");
+}
+
+pub fn fills() {
+    last_six();
+    past_the_last();
+    fill_line(7, &mut [0u32; 0], &mut [0u32; 0]);
+    fill_line(0, &mut [0u32; 4], &mut [0u32; 5]);
+    last_one();
+}
+
+fn last_six() {
+    let mut xs = [0u32; 6];
+    let mut ys = [0u32; 6];
+    fill_line(4294967290, &mut xs, &mut ys);
+    print::point_line(Point { x: xs[0], y: ys[0] });
+    print::point_line(Point { x: xs[1], y: ys[1] });
+    print::point_line(Point { x: xs[2], y: ys[2] });
+    print::point_line(Point { x: xs[3], y: ys[3] });
+    print::point_line(Point { x: xs[4], y: ys[4] });
+    print::point_line(Point { x: xs[5], y: ys[5] });
+}
+
+fn past_the_last() {
+    let mut xs = [0u32; 7];
+    let mut ys = [0u32; 7];
+    fill_line(4294967290, &mut xs, &mut ys);
+}
+
+fn last_one() {
+    let mut xs = [0u32; 1];
+    let mut ys = [0u32; 1];
+    fill_line(4294967295, &mut xs, &mut ys);
+    print::point_line(Point { x: xs[0], y: ys[0] });
+}
+
+// One step: prints the visit or the end, and hands back the walk after it.
+fn step_line(walk: Walk) -> Walk {
+    let stepped = walk.step(pairs::other(), pairs::other_shift());
+    let step = stepped.step;
+    match step {
+        Step::Visited(visit) => {
+            print::number(visit.index, b" ");
+            print::number(visit.x, b" ");
+            print::number(visit.y, b"\n");
+        }
+        Step::Ended => print::text(b"ended\n"),
+    }
+    stepped.walk
+}
+
+// Opens a walk and prints the answer; a refused one has ended.
+fn open_line(start: u32, count: u64) -> Walk {
+    print::number(start, b" ");
+    io::print_decimal(1, count);
+    let opened = Walk::open(start, count);
+    match opened {
+        Opened::Open(walk) => {
+            print::text(b" open\n");
+            walk
+        }
+        Opened::Refused(why) => {
+            print::text(b" ");
+            print::refusal_line(why);
+            Walk { next: 0, left: 0 }
+        }
+    }
+}
+
+pub fn walks() {
+    let a = open_line(4294967293, 3);
+    step_line(step_line(step_line(step_line(step_line(a)))));
+    open_line(4294967295, 2);
+    let b = open_line(10, 2);
+    step_line(step_line(step_line(step_line(b))));
+    let c = open_line(0, 4294967296);
+    step_line(step_line(c));
+    print::text(b"4294967294 9 hand\n");
+    let d = Walk {
+        next: 4294967294,
+        left: 9,
+    };
+    step_line(step_line(step_line(step_line(d))));
+}

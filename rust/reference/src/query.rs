@@ -1,0 +1,230 @@
+//! The cell query: the one index of a block whose point lies in a cell.
+//! Written from documents 01 and 004 alone and not from the Rattle code.
+
+use crate::check::{judge_level, reduce, shape_equations};
+use crate::pair::{Pair, Shift};
+use crate::refusal::Refusal;
+
+/// A cell of the shape (m, a) and the block to look in.
+#[derive(Clone, Copy, Debug, PartialEq, Eq)]
+pub struct Query {
+    pub m: u32,
+    pub a: u32,
+    pub column: u32,
+    pub row: u32,
+    pub block: u32,
+}
+
+/// Refusals 2, 4, 5, 6, 7 and 3, in this order; otherwise the index.
+pub fn query(pair: &Pair, shift: Shift, level: u32, query: Query) -> Result<u32, Refusal> {
+    judge_query(level, query)?;
+    let Query { m, a, column, row, block } = query;
+    // At m 32 the only block is 0, so the cut to 32 bits loses nothing.
+    let base = (u64::from(block) << m) as u32;
+    // The lower m index bits must carry the block's first point into the
+    // cell; the differing bits, top one first, are the right sides.
+    let first = pair.point(base, shift);
+    let x_change = top_bits(first.x, a) ^ column;
+    let y_change = top_bits(first.y, m - a) ^ row;
+    let mut equations = shape_equations(pair, m, a);
+    let changes = bits_from_top(x_change, a).chain(bits_from_top(y_change, m - a));
+    for (equation, right) in equations.iter_mut().zip(changes) {
+        equation.right = right;
+    }
+    if let Some(j) = reduce(&mut equations) {
+        return Err(Refusal::NotNet { m, a, j });
+    }
+    let bits = equations.iter().enumerate();
+    Ok(bits.fold(base, |index, (c, equation)| index | u32::from(equation.right) << c))
+}
+
+/// Refusals 2, 4, 5, 6 and 7. The bounds reach 2^32, hence 64 bits.
+fn judge_query(level: u32, query: Query) -> Result<(), Refusal> {
+    let Query { m, a, column, row, block } = query;
+    judge_level(level)?;
+    if m > level {
+        return Err(Refusal::SizeAboveLevel);
+    }
+    if a > m {
+        return Err(Refusal::ColumnBitsAboveSize);
+    }
+    if u64::from(column) >= 1u64 << a || u64::from(row) >= 1u64 << (m - a) {
+        return Err(Refusal::Cell);
+    }
+    if u64::from(block) >= 1u64 << (32 - m) {
+        return Err(Refusal::Block);
+    }
+    Ok(())
+}
+
+/// The top bits of a word as a number; none of the bits means 0.
+fn top_bits(word: u32, count: u32) -> u32 {
+    (u64::from(word) >> (32 - count)) as u32
+}
+
+/// The lowest `count` bits of a number, the highest of them first.
+fn bits_from_top(number: u32, count: u32) -> impl Iterator<Item = bool> {
+    (0..count).rev().map(move |bit| (number >> bit) & 1 == 1)
+}
+
+/// Whether a point lies in a cell of (m, a); for the tests.
+#[cfg(test)]
+pub(crate) fn lies_in(point: crate::pair::Point, m: u32, a: u32, column: u32, row: u32) -> bool {
+    top_bits(point.x, a) == column && top_bits(point.y, m - a) == row
+}
+
+#[cfg(test)]
+mod tests {
+    use super::*;
+    use crate::pair::NO_SHIFT;
+    use crate::random::Random;
+
+    fn ask(level: u32, fields: [u32; 5]) -> Result<u32, Refusal> {
+        query(&Pair::standard(), NO_SHIFT, level, from_fields(fields))
+    }
+
+    fn from_fields([m, a, column, row, block]: [u32; 5]) -> Query {
+        Query { m, a, column, row, block }
+    }
+
+    #[test]
+    fn known_answers() {
+        assert_eq!(ask(2, [2, 1, 1, 0, 0]), Ok(3));
+        assert_eq!(ask(2, [2, 1, 1, 0, 1]), Ok(5));
+        let shift = Shift { x: 0x8000_0000, y: 0 };
+        let cell = from_fields([2, 1, 1, 0, 0]);
+        assert_eq!(query(&Pair::standard(), shift, 2, cell), Ok(0));
+    }
+
+    /// The second wrong turn: the plain answer 3 plus the base of block 1 is
+    /// 7, and that index lies in column 1, row 1.
+    #[test]
+    fn block_base_is_not_just_added() {
+        assert_eq!(ask(2, [2, 1, 1, 1, 1]), Ok(7));
+        assert!(lies_in(Pair::standard().point(7, NO_SHIFT), 2, 1, 1, 1));
+    }
+
+    #[test]
+    fn size_zero_gives_the_block() {
+        let zero = Pair { x: [0; 32], y: [0; 32] };
+        for block in [0, 1, 5, u32::MAX] {
+            let cell = from_fields([0, 0, 0, 0, block]);
+            assert_eq!(query(&zero, NO_SHIFT, 1, cell), Ok(block));
+        }
+    }
+
+    #[test]
+    fn refusals_of_the_table() {
+        assert_eq!(ask(33, [2, 1, 0, 0, 0]), Err(Refusal::Level));
+        assert_eq!(ask(0, [2, 1, 0, 0, 0]), Err(Refusal::Level));
+        assert_eq!(ask(2, [3, 1, 0, 0, 0]), Err(Refusal::SizeAboveLevel));
+        assert_eq!(ask(2, [2, 3, 0, 0, 0]), Err(Refusal::ColumnBitsAboveSize));
+        assert_eq!(ask(2, [2, 1, 2, 0, 0]), Err(Refusal::Cell));
+        assert_eq!(ask(2, [2, 1, 0, 2, 0]), Err(Refusal::Cell));
+        assert_eq!(ask(32, [4, 1, 0, 0, 268_435_456]), Err(Refusal::Block));
+        assert!(ask(32, [4, 1, 0, 0, 268_435_455]).is_ok());
+        assert_eq!(ask(32, [32, 1, 0, 0, 1]), Err(Refusal::Block));
+    }
+
+    #[test]
+    fn refusals_come_in_order() {
+        let most = u32::MAX;
+        let zero = Pair { x: [0; 32], y: [0; 32] };
+        let steps = [
+            (33, [most; 5], 2),
+            (2, [most; 5], 4),
+            (2, [2, most, most, most, most], 5),
+            (2, [2, 1, most, most, most], 6),
+            (2, [2, 1, 1, 1, most], 7),
+            (2, [2, 1, 1, 1, 0], 3),
+        ];
+        for (level, fields, number) in steps {
+            let answer = query(&zero, NO_SHIFT, level, from_fields(fields));
+            assert_eq!(answer.map_err(Refusal::number), Err(number));
+        }
+    }
+
+    #[test]
+    fn bad_shape_is_named_by_the_query() {
+        let x = Pair::standard().x;
+        let twice = Pair { x, y: x };
+        let answer = query(&twice, NO_SHIFT, 2, from_fields([2, 1, 1, 0, 0]));
+        assert_eq!(answer, Err(Refusal::NotNet { m: 2, a: 1, j: 2 }));
+        // Another shape of the same pair is in order and is answered.
+        let answer = query(&twice, NO_SHIFT, 2, from_fields([2, 2, 1, 0, 0]));
+        assert_eq!(answer, Ok(2));
+    }
+
+    /// Looks at every index of the block, for every cell of a random shape.
+    #[test]
+    fn answer_equals_search() {
+        let mut random = Random::from_seed(4_711);
+        let (mut answered, mut refused) = (0, 0);
+        for turn in 0..600 {
+            let (pair, shift) = (random.pair(turn), random.shift());
+            let m = random.word() % 9;
+            let a = random.word() % (m + 1);
+            let block = top_bits(random.word(), 32 - m);
+            let base = block << m;
+            for cell in 0..1u32 << m {
+                let (column, row) = (cell >> (m - a), cell & ((1 << (m - a)) - 1));
+                let inside = |&p: &u32| lies_in(pair.point(base + p, shift), m, a, column, row);
+                let found: Vec<u32> = (0..1 << m).filter(inside).collect();
+                match query(&pair, shift, 32, Query { m, a, column, row, block }) {
+                    Ok(index) => {
+                        assert_eq!(found, [index - base]);
+                        answered += 1;
+                    }
+                    Err(refusal) => {
+                        assert_eq!(refusal.number(), 3);
+                        assert_ne!(found.len(), 1);
+                        refused += 1;
+                    }
+                }
+            }
+        }
+        // Neither outcome may be missing, or the test would say little.
+        assert!(answered > 1000 && refused > 1000);
+    }
+
+    /// The answer for a point's own cell and block is its own index, for
+    /// every shape up to m 32.
+    #[test]
+    fn every_shape_leads_back_to_the_index() {
+        let mut random = Random::from_seed(99);
+        for _ in 0..20 {
+            let (pair, shift) = (random.scrambled_pair(), random.shift());
+            let index = random.word();
+            let point = pair.point(index, shift);
+            for m in 0..=32 {
+                let block = top_bits(index, 32 - m);
+                for a in 0..=m {
+                    let (column, row) = (top_bits(point.x, a), top_bits(point.y, m - a));
+                    let cell = Query { m, a, column, row, block };
+                    assert_eq!(query(&pair, shift, 32, cell), Ok(index));
+                }
+            }
+        }
+    }
+
+    /// The rule of demand 3: the plain run's answer for the cell exclusive or
+    /// the cell of the block's first visit, plus the block's base.
+    #[test]
+    fn answer_follows_from_the_plain_run() {
+        let mut random = Random::from_seed(3);
+        for _ in 0..200 {
+            let (pair, shift) = (random.scrambled_pair(), random.shift());
+            let m = random.word() % 32;
+            let a = random.word() % (m + 1);
+            let block = top_bits(random.word(), 32 - m);
+            let (column, row) = (top_bits(random.word(), a), top_bits(random.word(), m - a));
+            let base = block << m;
+            let first = pair.point(base, shift);
+            let (u, v) = (top_bits(first.x, a), top_bits(first.y, m - a));
+            let plain = Query { m, a, column: column ^ u, row: row ^ v, block: 0 };
+            let p = query(&pair, NO_SHIFT, 32, plain).unwrap();
+            let cell = Query { m, a, column, row, block };
+            assert_eq!(query(&pair, shift, 32, cell), Ok(base + p));
+        }
+    }
+}
