@@ -45,13 +45,13 @@ fn line(section: Section, i: u32) {
 
 // The fast way, which is promised to be the matrix way.
 fn standard_line(shift: Shift, index: u32) {
-    print::number(index, b" ");
+    print::number(index);
     print::point_line(Plan::standard_point(shift, index));
 }
 
 fn other_line(shift: Shift, index: u32) {
     let plan = pairs::other();
-    print::number(index, b" ");
+    print::number(index);
     print::point_line(plan.point(shift, index));
 }
 
@@ -59,7 +59,8 @@ fn gap_line(name: &[u8], first: u32, c: u32) {
     let mut words = pairs::standard_words();
     words[((first as u64 + c as u64) % 64) as usize] = 0;
     print::text(name);
-    print::number(c, b" 32 ");
+    print::number(c);
+    print::number(32);
     print::judgement_line(stratify::check(&words, 32), b"passed");
 }
 
@@ -69,7 +70,8 @@ fn sum_line(c: u32) {
     let at = c % 32;
     words[at as usize] = ((4294967295u64 << (32 - at)) % 4294967296) as u32;
     print::text(b"sum-x ");
-    print::number(c, b" 32 ");
+    print::number(c);
+    print::number(32);
     print::judgement_line(stratify::check(&words, 32), b"passed");
 }
 
@@ -106,16 +108,16 @@ pub fn query_line(
     row: u32,
     block: u32,
 ) {
-    print::number(m, b" ");
-    print::number(a, b" ");
-    print::number(column, b" ");
-    print::number(row, b" ");
-    print::number(block, b" ");
+    print::number(m);
+    print::number(a);
+    print::number(column);
+    print::number(row);
+    print::number(block);
     let answer = stratify::query(plan, shift, level, m, a, column, row, block);
     match answer {
         Located::Found(index) => {
             print::text(b"found ");
-            print::number(index, b"\n");
+            print::last_number(index);
         }
         Located::Refused(why) => print::refusal_line(why),
     }

@@ -220,13 +220,14 @@ pub fn twice_words() -> [u32; 64] {
 }
 
 pub fn other() -> Plan {
-    let words = OTHER;
-    let loaded = Plan::load(&words);
-    loaded.plan
+    plan_of(other_words())
 }
 
 pub fn twice() -> Plan {
-    let words = TWICE;
+    plan_of(twice_words())
+}
+
+fn plan_of(words: [u32; 64]) -> Plan {
     let loaded = Plan::load(&words);
     loaded.plan
 }

@@ -7,15 +7,20 @@ pub fn text(bytes: &[u8]) {
     io::write_all(1, bytes);
 }
 
-// A number in decimal, and what follows it.
-pub fn number(n: u32, after: &[u8]) {
+// A number in decimal, with a space after it or at the end of a line.
+pub fn number(n: u32) {
     io::print_decimal(1, n as u64);
-    text(after);
+    text(b" ");
+}
+
+pub fn last_number(n: u32) {
+    io::print_decimal(1, n as u64);
+    text(b"\n");
 }
 
 pub fn point_line(at: Point) {
-    number(at.x, b" ");
-    number(at.y, b"\n");
+    number(at.x);
+    last_number(at.y);
 }
 
 // The number of a refusal, with m, a and j for 3.
@@ -24,12 +29,12 @@ pub fn refusal_line(why: Refusal) {
     match why {
         Refusal::NotNet { m, a, j } => {
             text(b"3 ");
-            number(m, b" ");
-            number(a, b" ");
-            number(j, b"\n");
+            number(m);
+            number(a);
+            last_number(j);
         }
         _ => {
-            number(why.number(), b"\n");
+            last_number(why.number());
         }
     }
 }

@@ -170,7 +170,7 @@ fn query_line(
 fn fill_section(output: &mut impl Write) -> io::Result<()> {
     writeln!(output, "fill")?;
     let fills =
-        [(4_294_967_290, 6, 6), (4_294_967_290, 7, 7), (7, 0, 0), (0, 4, 5), (4_294_967_295, 1, 1)];
+        [(4_294_967_293, 3, 3), (4_294_967_293, 4, 4), (7, 0, 0), (0, 4, 5), (4_294_967_295, 1, 1)];
     for (start, x_length, y_length) in fills {
         fill_lines(output, start, x_length, y_length)?;
     }
@@ -197,14 +197,13 @@ fn fill_lines(
 
 fn walk_section(output: &mut impl Write) -> io::Result<()> {
     writeln!(output, "walk")?;
-    opened_walk(output, 4_294_967_293, 3, 5)?;
+    opened_walk(output, 4_294_967_294, 2, 3)?;
     opened_walk(output, 4_294_967_295, 2, 0)?;
-    opened_walk(output, 10, 2, 4)?;
     opened_walk(output, 0, 4_294_967_296, 2)?;
     // No opening gives this walk: it has more visits left than indexes.
     let by_hand = Walk { next: 4_294_967_294, left: 9 };
     writeln!(output, "{} {} hand", by_hand.next, by_hand.left)?;
-    step_lines(output, by_hand, 4)
+    step_lines(output, by_hand, 3)
 }
 
 fn opened_walk(output: &mut impl Write, start: u32, count: u64, steps: u32) -> io::Result<()> {

@@ -1,0 +1,28 @@
+-- The one proof of the table of known points: the definitions compute them. Assumes nothing.
+use mathlib.Core.Path.{_≡_, refl, sym, ap, subst}
+use Rattle.digits.specs.Digits.{digitwise, plus, times}
+use Rattle.digits.proofs.Two.{one-lt-two}
+use Rattle.linear.specs.Matrix.{sum, skip, det}
+use Rattle.net.specs.Generators.{product}
+use Rattle.net.specs.Shape.{matrix}
+use Rattle.net.specs.Check.{search, least-index, first-a, first-m, check}
+use Rattle.net.specs.Query.{visit-index, locate}
+use Rattle.net.proofs.Standard.{iterate, add-down, iterated}
+use Rattle.net.proofs.Columns.{standard-is}
+use Rattle.refusal.specs.Outcome.{first, granted}
+use Rattle.plan.specs.declared.pair.Plan.{Plan}
+use Rattle.plan.specs.Pair.{of-matrices, standard-pair}
+use Rattle.known_points.specs.Known.{All, table, KnownPoints}
+
+-- the standard pair in the form that computes fast, each column from the one before
+fast : Plan
+fast = of-matrices (iterated 2 32 32)
+
+computed : All fast table
+unfolding fast iterate add-down digitwise plus times sum skip det product matrix search least-index first-a first-m check
+    visit-index locate first granted
+computed = (refl, (refl, (refl, (refl, (refl, (refl, (refl, (refl, (refl, tt)))))))))
+
+pub known : KnownPoints
+unfolding fast
+known = subst (λ (P : Plan). All P table) (sym (ap of-matrices (standard-is one-lt-two 32 32))) computed
