@@ -43,7 +43,8 @@ fn coordinates(columns: [u32; 32], shift: u32, start: Index, out: &mut [u32])
 {
     let mut k = 0;
     while k < out.len() {
-        out[k] = word::coordinate(columns, start + k as Index, shift);
+        let at = start + k as Index;
+        out[k] = word::coordinate(columns, at, shift);
         k += 1;
     }
 }

@@ -38,10 +38,9 @@ impl Plan {
     pub fn standard() -> Plan
         ensures { λ r. ⌜ r ≡ standard-pair ⌝ }
     {
-        Plan {
-            x: word::identity_columns(),
-            y: word::pascal_columns(),
-        }
+        let x = word::identity_columns();
+        let y = word::pascal_columns();
+        Plan { x, y }
     }
 
     // The matrices that 64 words hold, the columns of X first.
@@ -82,10 +81,9 @@ impl Plan {
     pub fn standard_point(shift: Shift, index: Index) -> Point
         ensures { λ r. ⌜ of-point r ≡ point (sequence standard-pair shift) index ⌝ }
     {
-        Point {
-            x: word::standard_x(index, shift.x),
-            y: word::standard_y(index, shift.y),
-        }
+        let x = word::standard_x(index, shift.x);
+        let y = word::standard_y(index, shift.y);
+        Point { x, y }
     }
 }
 

@@ -21,11 +21,11 @@ abbrev μ-loop : tie.MeasureT-loop
 loop-holds : tie.Need-loop-holds Inv-loop μ-loop
 loop-holds c = (omega arith, filled-none)
 
-cast-coordinate : tie.Need-cast-coordinate Inv-loop μ-loop
-cast-coordinate c = omega arith
+cast-at : tie.Need-cast-at Inv-loop μ-loop
+cast-at c = omega arith
 
-add-coordinate : tie.Need-add-coordinate Inv-loop μ-loop
-add-coordinate c = omega arith
+add-at : tie.Need-add-at Inv-loop μ-loop
+add-at c = omega arith
 
 coordinate-requires : tie.Need-coordinate-requires Inv-loop μ-loop
 coordinate-requires c κs = tt
@@ -58,8 +58,8 @@ coordinates-spec =
     Inv-loop
     μ-loop
     loop-holds
-    cast-coordinate
-    add-coordinate
+    cast-at
+    add-at
     coordinate-requires
     mul-out
     slice-write-out

@@ -12,7 +12,7 @@ use Rattle.net.proofs.Columns.{standard-is}
 use Rattle.refusal.specs.Outcome.{first, granted}
 use Rattle.plan.specs.declared.pair.Plan.{Plan}
 use Rattle.plan.specs.Pair.{of-matrices, standard-pair}
-use Rattle.known_points.specs.Known.{All, table, KnownPoints}
+use Rattle.known_table.specs.Known.{All, table, KnownPoints}
 
 -- the standard pair in the form that computes fast, each column from the one before
 fast : Plan
