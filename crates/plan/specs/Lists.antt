@@ -2,8 +2,9 @@
 use mathlib.Core.List.{List, [], _∷_, map}
 use Prim.Native.Nat.{ℕ, suc}
 use Rattle.net.specs.Sequence.{Sequence, point}
-use Rattle.net.specs.Run.{Visit, range}
-use Rattle.net.specs.Walk.{Answer, visited, ended}
+use Rattle.net.specs.Run.{Visit, range, visit}
+use Rattle.net.specs.Walk.{Walk, Answer, visited, ended, answers}
+use Rattle.plan.specs.Range.{last-index}
 use Rattle.plan.specs.Fill.{Buffers}
 
 -- an index with a point
@@ -28,3 +29,7 @@ unfoldable pub told : List (Answer Visit) → List Visit
 told [] = []
 told (visited v ∷ l) = v ∷ told l
 told (ended ∷ l) = told l
+
+-- the visits that n steps give, the first on the walk w and each later one on the walk that the one before it handed back
+abbrev pub walked : Sequence → ℕ → Walk → List Visit
+walked S n w = told (answers (visit S) last-index n w)

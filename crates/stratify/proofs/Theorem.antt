@@ -1,5 +1,5 @@
 -- One term of `Theorems`: demand 3 from the theorems of net. Assumes nothing.
-use mathlib.Core.Path.{_≡_, refl, sym, ap, _∙_, subst}
+use mathlib.Core.Path.{_≡_, refl, sym, ap, ap₂, _∙_, subst}
 use mathlib.Core.Bool.{not}
 use mathlib.Core.List.{List}
 use Prim.Native.Nat.{ℕ, suc, _+_, _-_, _*_, _^_, _≤_, _<_, min}
@@ -7,7 +7,7 @@ use native.Mathlib.Omega.{arith}
 use borrow.Author.Tests.{not-false, eqb-true}
 use lib.Bits.{bitXor}
 use lib.Dec.{eqb}
-use lib.ListN.{length, take}
+use lib.ListN.{length, take, drop}
 use lib.Pow.{pow-pos}
 use Rattle.digits.specs.Digits.{minus}
 use Rattle.digits.proofs.Two.{one-lt-two, minus-two}
@@ -21,8 +21,7 @@ use Rattle.net.specs.Check.{check}
 use Rattle.net.specs.Query.{locate}
 use Rattle.net.specs.Net.{Net}
 use Rattle.net.specs.Answers.{Located, Checked as NetChecked}
-use Rattle.net.specs.Run.{Visit, visit, visits, run, hits}
-use Rattle.net.specs.Walk.{Walk, answers}
+use Rattle.net.specs.Run.{Visit, visits, run, hits}
 use Rattle.net.specs.Standard.{standard}
 use Rattle.net.proofs.Below.{below-take, below-drop}
 use Rattle.net.proofs.Interval.{block-lt}
@@ -37,12 +36,10 @@ use Rattle.plan.specs.declared.pair.Plan.{Plan}
 use Rattle.plan.specs.declared.pair.Shift.{Shift}
 use Rattle.plan.specs.Pair.{generators, sequence, largest-level, loaded}
 use Rattle.plan.specs.Range.{last-index}
-use Rattle.plan.specs.Walk.{opening}
-use Rattle.plan.specs.Lists.{told}
 use Rattle.plan.proofs.Loading.{loaded-accepted}
 use Rattle.plan.proofs.Lists.{filled-visits, opened, steps, walk-visits}
 use Rattle.stratify.specs.Answers.{of-verdict, of-location, checking, querying, unknown-level, Words, Level, Cell}
-use Rattle.stratify.specs.Theorem.{Related, Covered, Queried, Checked, Lists, StandardPair, Theorems}
+use Rattle.stratify.specs.Theorem.{Related, VisitedOnce, Covered, Queried, Checked, Lists, GivesRun, StandardPair, Theorems}
 use Rattle.stratify.proofs.Tests.{level-bounds}
 use Rattle.stratify.proofs.Outcomes.{querying-locate, checking-check, verdict-accepted, verdict-not-net, location-accepted, location-not-net}
 
@@ -103,19 +100,17 @@ module _ {P : Plan} (valid : Valid (generators P)) {M : ℕ} (fits : M ≤ large
         let h = block-lt one-lt-two 32 m k 0 (omega arith) (cell .block) (pow-pos m) in
         omega arith
 
-    walk-hit : (count n : ℕ) (w : Walk) → opening (k * 2 ^ m) count ≡ accepted w → 2 ^ m ≤ count → 2 ^ m ≤ n
-        → hits S m a c r (take (2 ^ m) (told (answers (visit S) last-index n w))) ≡ 1
-    walk-hit count n w e long many = hit-in _ (min n count) (walk-visits S (k * 2 ^ m) count w e first-index n) (omega arith)
+    visited-once : VisitedOnce P s m a k c r
+    visited-once = record {
+      one-visit = one-visit;
+      relation = relation;
+      points = one-hit;
+      fills = λ xs ys e. hit-in _ (length xs) (filled-visits S (k * 2 ^ m) xs ys e);
+      walks = λ count n w e long many. hit-in _ (min n count) (walk-visits S (k * 2 ^ m) count w e first-index n) (omega arith);
+    }
 
   covered : Covered P M
-  covered = record {
-    one-visit = one-visit;
-    relation = relation;
-    points = one-hit;
-    fills = λ s words m a k c r cell xs ys e.
-        hit-in s words m a k c r cell _ (length xs) (filled-visits (sequence P s) (k * 2 ^ m) xs ys e);
-    walks = walk-hit;
-  }
+  covered = visited-once
 
 -- ---- 3: the query
 
@@ -180,11 +175,30 @@ lists P s = record {
   points = λ start n. refl;
   fills = filled-visits (sequence P s);
   opened = opened;
-  walked = steps (sequence P s);
+  steps = steps (sequence P s);
   walks = walk-visits (sequence P s);
-  walked-by-hand = net.theorems .walked-by-hand _ last-index;
-  run-from = λ m k. net.theorems .runs (sequence P s) m k .part;
+  by-hand = net.theorems .walked-by-hand _ last-index;
 }
+
+gives-run : (P : Plan) (s : Shift) (m k : ℕ) → GivesRun P s m k
+gives-run P s m k = record {
+  points = refl;
+  fills = λ p xs ys e. ap (take (2 ^ m - p)) (filled-visits S (k * 2 ^ m + p) xs ys e) ∙ part p (length xs);
+  walks = λ count n w e from.
+      ap (take (2 ^ m)) (walk-visits S (k * 2 ^ m) count w e from n) ∙ from-first (min n count);
+}
+  where
+    S : Sequence
+    S = sequence P s
+
+    part : (p n : ℕ) → take (2 ^ m - p) (visits S (k * 2 ^ m + p) n) ≡ take n (drop p (run S m k))
+    part = net.theorems .runs S m k .part
+
+    from-first : (n : ℕ) → take (2 ^ m) (visits S (k * 2 ^ m) n) ≡ take n (run S m k)
+    from-first n =
+        let e : 2 ^ m ≡ 2 ^ m - 0 = omega arith in
+        let f : k * 2 ^ m ≡ k * 2 ^ m + 0 = omega arith in
+        ap₂ (λ (j i : ℕ). take j (visits S i n)) e f ∙ part 0 n
 
 -- ---- words that the check accepts
 
@@ -218,5 +232,6 @@ theorems = record {
   checked = checked;
   accepted-covered = accepted-covered;
   lists = lists;
+  gives-run = gives-run;
   standard = standard-pair-theorem;
 }

@@ -15,7 +15,7 @@ use Rattle.net.specs.Shape.{determinant, Passes}
 use Rattle.net.specs.Check.{First, FirstZero}
 use Rattle.net.specs.Run.{visit, visits, run, hits}
 use Rattle.net.specs.Standard.{binomial}
-use Rattle.net.specs.Walk.{Walk, answers}
+use Rattle.net.specs.Walk.{Walk}
 use Rattle.net.specs.Steps.{Walked, WalkedByHand}
 use Rattle.refusal.specs.Outcome.{accepted, not-net}
 use Rattle.plan.specs.declared.pair.Plan.{Plan}
@@ -24,7 +24,7 @@ use Rattle.plan.specs.Pair.{generators, sequence, standard-pair, largest-level,
 use Rattle.plan.specs.Fill.{filling, filled}
 use Rattle.plan.specs.Range.{index-bits, last-index}
 use Rattle.plan.specs.Walk.{opening}
-use Rattle.plan.specs.Lists.{pointed, held, told}
+use Rattle.plan.specs.Lists.{pointed, held, walked}
 use Rattle.stratify.specs.Answers.{Words, Level, Cell, checking, querying}
 
 -- ---- 1, 2: one visit in every cell of every shape, and its relation to the plain run
@@ -37,18 +37,20 @@ pub record Related (P : Plan) (s : Shift) (m a k c r p : ℕ) : Type 0 where
   pub block-visit : Only (VisitIn (sequence P s) m a k c r) (k * 2 ^ m + p)
   pub answer : (level : ℕ) → Level level → m ≤ level → querying P s level m a c r k ≡ accepted (k * 2 ^ m + p)
 
--- what passing level M is worth: in every block, cell and shape, under every shift, exactly one visit, its relation to the plain run,
--- and one visit in what point calls, a fill and the steps of a walk give for the whole block
-pub record Covered (P : Plan) (M : ℕ) : Type 0 where
-  pub one-visit : (s : Shift) → Words s → (m a k c r : ℕ) → Cell M m a k c r → One (VisitIn (sequence P s) m a k c r)
-  pub relation : (s : Shift) → Words s → (m a k c r : ℕ) → Cell M m a k c r → (p : ℕ) × Related P s m a k c r p
-  pub points : (s : Shift) → Words s → (m a k c r : ℕ) → Cell M m a k c r
-      → hits (sequence P s) m a c r (pointed (sequence P s) (k * 2 ^ m) (2 ^ m)) ≡ 1
-  pub fills : (s : Shift) → Words s → (m a k c r : ℕ) → Cell M m a k c r → (xs ys : List ℕ) → filling (k * 2 ^ m) xs ys ≡ accepted tt
-      → 2 ^ m ≤ length xs → hits (sequence P s) m a c r (take (2 ^ m) (held (k * 2 ^ m) (filled (sequence P s) (k * 2 ^ m) xs ys))) ≡ 1
-  pub walks : (s : Shift) → Words s → (m a k c r : ℕ) → Cell M m a k c r → (count n : ℕ) (w : Walk) → opening (k * 2 ^ m) count ≡ accepted w
-      → 2 ^ m ≤ count → 2 ^ m ≤ n
-      → hits (sequence P s) m a c r (take (2 ^ m) (told (answers (visit (sequence P s)) last-index n w))) ≡ 1
+-- column c and row r of block k: exactly one visit, its relation to the plain run, and one visit in what point calls, a fill and the
+-- steps of a walk give for the block
+pub record VisitedOnce (P : Plan) (s : Shift) (m a k c r : ℕ) : Type 0 where
+  pub one-visit : One (VisitIn (sequence P s) m a k c r)
+  pub relation : (p : ℕ) × Related P s m a k c r p
+  pub points : hits (sequence P s) m a c r (pointed (sequence P s) (k * 2 ^ m) (2 ^ m)) ≡ 1
+  pub fills : (xs ys : List ℕ) → filling (k * 2 ^ m) xs ys ≡ accepted tt → 2 ^ m ≤ length xs
+      → hits (sequence P s) m a c r (take (2 ^ m) (held (k * 2 ^ m) (filled (sequence P s) (k * 2 ^ m) xs ys))) ≡ 1
+  pub walks : (count n : ℕ) (w : Walk) → opening (k * 2 ^ m) count ≡ accepted w → 2 ^ m ≤ count → 2 ^ m ≤ n
+      → hits (sequence P s) m a c r (take (2 ^ m) (walked (sequence P s) n w)) ≡ 1
+
+-- what passing level M is worth: this holds under every shift, in every shape of a size from 0 to M, every cell and every block
+abbrev pub Covered : Plan → ℕ → Type 0
+Covered P M = (s : Shift) → Words s → (m a k c r : ℕ) → Cell M m a k c r → VisitedOnce P s m a k c r
 
 -- ---- 3: the query of any plan, checked or not
 
@@ -78,19 +80,27 @@ pub record Checked (words : List ℕ) (level : ℕ) : Type 0 where
 
 -- ---- 5: points, fills and walks give the run
 
--- Each gives the visits of consecutive indexes; for a walk it is ONE claim about the list of n steps, steps after the end included.
--- And consecutive visits from index p of a block on are the run from there, as far as they go into the block.
+-- Each gives the visits of consecutive indexes. For a walk it is ONE claim about the list of n steps, steps after the end included, and
+-- what the last walk holds (`Walked`); also for walks made by hand.
 pub record Lists (P : Plan) (s : Shift) : Type 0 where
   pub points : (start n : ℕ) → pointed (sequence P s) start n ≡ visits (sequence P s) start n
   pub fills : (start : ℕ) (xs ys : List ℕ) → filling start xs ys ≡ accepted tt
       → held start (filled (sequence P s) start xs ys) ≡ visits (sequence P s) start (length xs)
   pub opened : (start count : ℕ) (w : Walk) → opening start count ≡ accepted w → w ≡ record { next = start; left = count }
-  pub walked : (start count : ℕ) (w : Walk) → opening start count ≡ accepted w → start ≤ last-index
+  pub steps : (start count : ℕ) (w : Walk) → opening start count ≡ accepted w → start ≤ last-index
       → (n : ℕ) → Walked (visit (sequence P s)) last-index start count n
   pub walks : (start count : ℕ) (w : Walk) → opening start count ≡ accepted w → start ≤ last-index
-      → (n : ℕ) → told (answers (visit (sequence P s)) last-index n w) ≡ visits (sequence P s) start (min n count)
-  pub walked-by-hand : (w : Walk) (n : ℕ) → WalkedByHand (visit (sequence P s)) last-index w n
-  pub run-from : (m k p n : ℕ) → take (2 ^ m - p) (visits (sequence P s) (k * 2 ^ m + p) n) ≡ take n (drop p (run (sequence P s) m k))
+      → (n : ℕ) → walked (sequence P s) n w ≡ visits (sequence P s) start (min n count)
+  pub by-hand : (w : Walk) (n : ℕ) → WalkedByHand (visit (sequence P s)) last-index w n
+
+-- So, in block k: point calls give the run; a fill from its index p on writes the run from there, as far as it goes into the block; and
+-- a walk opened at its first index gives the run, as far as it goes into the block.
+pub record GivesRun (P : Plan) (s : Shift) (m k : ℕ) : Type 0 where
+  pub points : pointed (sequence P s) (k * 2 ^ m) (2 ^ m) ≡ run (sequence P s) m k
+  pub fills : (p : ℕ) (xs ys : List ℕ) → filling (k * 2 ^ m + p) xs ys ≡ accepted tt
+      → take (2 ^ m - p) (held (k * 2 ^ m + p) (filled (sequence P s) (k * 2 ^ m + p) xs ys)) ≡ take (length xs) (drop p (run (sequence P s) m k))
+  pub walks : (count n : ℕ) (w : Walk) → opening (k * 2 ^ m) count ≡ accepted w → k * 2 ^ m ≤ last-index
+      → take (2 ^ m) (walked (sequence P s) n w) ≡ take (min n count) (run (sequence P s) m k)
 
 -- ---- the standard pair
 
@@ -115,4 +125,5 @@ pub record Theorems : Type 0 where
   pub accepted-covered : (words : List ℕ) → Below (2 ^ 32) words → (M : ℕ) → checking words M ≡ accepted tt → Covered (loaded words) M
   -- of any plan and shift
   pub lists : (P : Plan) (s : Shift) → Lists P s
+  pub gives-run : (P : Plan) (s : Shift) (m k : ℕ) → GivesRun P s m k
   pub standard : StandardPair
