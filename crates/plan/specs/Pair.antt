@@ -7,7 +7,7 @@ use lib.ListN.{length, take, drop, replicate}
 use Rattle.net.specs.Generators.{Generators}
 use Rattle.net.specs.Sequence.{Sequence}
 use Rattle.net.specs.Finish.{shifted}
-use Rattle.net.specs.Standard.{standard}
+use Rattle.word.specs.Standard.{standard-matrices}
 use Rattle.refusal.specs.Outcome.{Outcome, accepted, Test, first, granted}
 use Rattle.plan.specs.declared.pair.Plan.{Plan}
 use Rattle.plan.specs.declared.pair.Shift.{Shift}
@@ -36,7 +36,7 @@ largest-level = 32
 
 -- the standard pair: identity and Pascal's triangle modulo 2, 32 columns each
 abbrev pub standard-pair : Plan
-standard-pair = of-matrices (standard 2 32 32)
+standard-pair = of-matrices standard-matrices
 
 -- 1: not 64 words
 abbrev pub not-a-pair : List ℕ → Test

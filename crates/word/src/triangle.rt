@@ -2,7 +2,7 @@
 ghost use mathlib.Core.Path.{_≡_};
 ghost use Rattle.digits.specs.Digits.{reversed};
 ghost use Rattle.net.specs.Generators.{product};
-ghost use Rattle.net.specs.Standard.{standard};
+ghost use Rattle.word.specs.Standard.{standard-matrices};
 
 // The shift widths of the five steps, and the bits that each step moves.
 const WIDTHS: [u32; 5] = [16, 8, 4, 2, 1];
@@ -17,7 +17,7 @@ const MASKS: [u32; 5] = [
 
 // From a reversed index the second coordinate of the standard matrices: Pascal's triangle modulo 2 has this self-similar form.
 pub fn pascal(word: u32) -> u32
-    ensures { λ r. ⌜ r ≡ product 2 (standard 2 32 32 .Y) (reversed 2 32 word) ⌝ }
+    ensures { λ r. ⌜ r ≡ product 2 (standard-matrices .Y) (reversed 2 32 word) ⌝ }
 {
     let widths = WIDTHS;
     let masks = MASKS;

@@ -67,9 +67,11 @@ loop-again : tie.Need-loop-again Inv-loop μ-loop
 loop-again c =
     let a = c .before .before .args in
     let l = c .before .loop in
-    let f : Fits w32 (getD (a .t1) (l .t) 0) = search needs in
-    let small = xor-lt 32 (l .word) _ (l .inv .1) (times-bit-fits _ f .fits) in
-    (omega arith, small, sweep-more (a .t1) (a .t2) (a .v) (a .k) (l .t) (l .word) (l .index) (l .inv .2))
+    let f : Fits w32 (getD (a .t1) (l .t) 0) = search needs in (
+      omega arith,
+      xor-lt 32 (l .word) _ (l .inv .1) (times-bit-fits _ f .fits),
+      sweep-more (a .t1) (a .t2) (a .v) (a .k) (l .t) (l .word) (l .index) (l .inv .2),
+    )
 
 returns : tie.Need-returns Inv-loop μ-loop
 returns c =
