@@ -8,7 +8,7 @@ use Rattle.refusal.specs.Outcome.{accepted, not-net}
 use Rattle.plan.specs.declared.pair.Plan.{Plan}
 use Rattle.plan.specs.declared.pair.Shift.{Shift}
 use Rattle.plan.specs.Pair.{sequence, standard-pair, largest-level}
-use Rattle.stratify.specs.Answers.{checking, querying}
+use Rattle.stratify.specs.Answers.{check-outcome, query-outcome}
 
 pub data Known : Type 0 where
   -- the standard pair without shift: the point of index i
@@ -24,8 +24,8 @@ shift-by s = record { x = s; y = 0 }
 -- what an entry says, of the standard pair P
 abbrev pub Holds : Plan → Known → Type 0
 Holds P (point-at i x y) = point (sequence P (shift-by 0)) i ≡ (x, y)
-Holds P (index-in s m a c r k i) = querying P (shift-by s) largest-level m a c r k ≡ accepted i
-Holds P (refused-at word level m a j) = checking (replicate 64 word) level ≡ not-net m a j
+Holds P (index-in s m a c r k i) = query-outcome P (shift-by s) largest-level m a c r k ≡ accepted i
+Holds P (refused-at word level m a j) = check-outcome (replicate 64 word) level ≡ not-net m a j
 
 abbrev pub All : Plan → List Known → Type 0
 All P [] = Unit

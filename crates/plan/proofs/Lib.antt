@@ -1,4 +1,5 @@
 pub mod Laws
+pub mod Level
 pub mod Loading
 pub mod Filling
 pub mod Lists

@@ -13,9 +13,9 @@ use Rattle.net.specs.Steps.{Walked}
 use Rattle.net.proofs.Walk.{walked}
 use Rattle.refusal.specs.Outcome.{Outcome, accepted, refused, first}
 use Rattle.refusal.proofs.First.{first-none, first-accepted}
-use Rattle.plan.specs.Fill.{filling, filled}
+use Rattle.plan.specs.Fill.{fill-outcome, filled}
 use Rattle.plan.specs.Range.{last-index}
-use Rattle.plan.specs.Walk.{opening}
+use Rattle.plan.specs.Walk.{open-outcome}
 use Rattle.plan.specs.Lists.{paired, held, told}
 use Rattle.plan.proofs.Filling.{written}
 
@@ -26,7 +26,7 @@ unfolding paired range
 paired-each S start zero = refl
 paired-each S start (suc n) = ap (λ (l : List Visit). visit S start ∷ l) (paired-each S (suc start) n)
 
-pub filled-visits : (S : Sequence) (start : ℕ) (xs ys : List ℕ) → filling start xs ys ≡ accepted tt
+pub filled-visits : (S : Sequence) (start : ℕ) (xs ys : List ℕ) → fill-outcome start xs ys ≡ accepted tt
     → held start (filled S start xs ys) ≡ visits S start (length xs)
 filled-visits S start xs ys e =
     let (passed, after) = first-accepted (accepted tt) 8 _ (not (eqb (length xs) (length ys))) e in
@@ -41,7 +41,7 @@ value : Outcome Walk → Walk → Walk
 value (accepted w) d = w
 value (refused n vs) d = d
 
-module _ (start count : ℕ) (w : Walk) (accepts : opening start count ≡ accepted w) where
+module _ (start count : ℕ) (w : Walk) (accepts : open-outcome start count ≡ accepted w) where
   abbrev new : Walk
   new = record { next = start; left = count }
 
@@ -71,7 +71,7 @@ told-given S n start count =
     ∙ ap (λ (t : List Visit). visits S start (min n count) ++ t) (told-ended (n - count))
     ∙ append-nil (visits S start (min n count))
 
-module _ (S : Sequence) (start count : ℕ) (w : Walk) (accepts : opening start count ≡ accepted w) (from : start ≤ last-index) (n : ℕ) where
+module _ (S : Sequence) (start count : ℕ) (w : Walk) (accepts : open-outcome start count ≡ accepted w) (from : start ≤ last-index) (n : ℕ) where
   pub steps : Walked (visit S) last-index start count n
   steps = walked (visit S) last-index start count n from (within start count w accepts)
 

@@ -1,4 +1,4 @@
--- What a fill answers, and what it leaves in the two buffers.
+-- What a fill comes to, and what it leaves in the two buffers.
 use mathlib.Core.Bool.{not}
 use mathlib.Core.List.{List, [], _∷_, map}
 use Prim.Native.Nat.{ℕ}
@@ -6,24 +6,25 @@ use lib.Dec.{eqb}
 use lib.ListN.{length}
 use Rattle.net.specs.Sequence.{Sequence}
 use Rattle.net.specs.Run.{range}
-use Rattle.plan.specs.Range.{past-last}
 use Rattle.refusal.specs.Outcome.{Outcome, accepted, Test, first, granted}
+use Rattle.plan.specs.Range.{past-last}
 
 -- 8: buffers differ in length
 abbrev pub lengths-differ : List ℕ → List ℕ → Test
 lengths-differ xs ys = record { number = 8; holds = not (eqb (length xs) (length ys)) }
 
-abbrev pub filling : ℕ → List ℕ → List ℕ → Outcome Unit
-filling start xs ys = first (lengths-differ xs ys ∷ past-last start (length xs) ∷ []) (accepted tt)
+-- what a fill of buffers that hold xs and ys comes to, from index start on
+abbrev pub fill-outcome : ℕ → List ℕ → List ℕ → Outcome Unit
+fill-outcome start xs ys = first (lengths-differ xs ys ∷ past-last start (length xs) ∷ []) (accepted tt)
 
 -- the content of the two buffers
 pub record Buffers : Type 0 where
   pub x : List ℕ
   pub y : List ℕ
 
--- the coordinates of the indexes from start on, in order, in every place of both; a refused fill leaves what was there
+-- what they hold then: the coordinates of the indexes from start on, in order, in every place of both; a refused fill leaves xs and ys
 abbrev pub filled : Sequence → ℕ → List ℕ → List ℕ → Buffers
 filled S start xs ys =
-    granted (filling start xs ys)
+    granted (fill-outcome start xs ys)
     (record { x = map (S .x) (range start (length xs)); y = map (S .y) (range start (length ys)) })
     (record { x = xs; y = ys })

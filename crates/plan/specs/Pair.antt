@@ -1,50 +1,68 @@
--- Generator matrices of 32 words each, their sequences, the standard pair, and the matrices that 64 words hold.
-use mathlib.Core.Bool.{not}
+-- Generator matrices of 32 words each, their sequences, levels, the standard pair, and the matrices that 64 words hold.
+use mathlib.Core.Bool.{not, _||_}
 use mathlib.Core.List.{List, [], _∷_}
 use Prim.Native.Nat.{ℕ}
-use lib.Dec.{eqb}
+use lib.Dec.{eqb, ltb}
 use lib.ListN.{length, take, drop, replicate}
 use Rattle.net.specs.Generators.{Generators}
 use Rattle.net.specs.Sequence.{Sequence}
-use Rattle.net.specs.Finish.{shifted}
+use Rattle.net.specs.Finish.{Finish, digital, shift}
 use Rattle.word.specs.Standard.{standard-matrices}
 use Rattle.refusal.specs.Outcome.{Outcome, accepted, Test, first, granted}
 use Rattle.plan.specs.declared.pair.Plan.{Plan}
 use Rattle.plan.specs.declared.pair.Shift.{Shift}
 use Rattle.plan.specs.declared.pair.Point.{Point}
 
--- the generator matrices of a plan (01: the pair): base two, 32 rows
+-- two lists of words as generator matrices (01: the pair): base two, 32 rows
 abbrev pub pair : List ℕ → List ℕ → Generators
 pair x y = record { b = 2; R = 32; X = x; Y = y }
 
+-- the generator matrices of a plan
 abbrev pub generators : Plan → Generators
 generators P = pair (P .x) (P .y)
 
--- its points under a digital shift (01: scramble)
-abbrev pub sequence : Plan → Shift → Sequence
-sequence P s = shifted (generators P) (s .x) (s .y)
+-- what follows the product: the digital shift (01: scramble) of each axis
+abbrev pub finish : Shift → Finish
+finish s = shift 2 (s .x) (s .y)
 
+-- the points of a plan under a shift
+abbrev pub sequence : Plan → Shift → Sequence
+sequence P s = digital (generators P) (finish s)
+
+-- the code's point as two numbers
 abbrev pub of-point : Point → ℕ × ℕ
 of-point p = (p .x, p .y)
 
-abbrev pub of-matrices : Generators → Plan
-of-matrices G = record { x = G .X; y = G .Y }
+-- ---- levels
 
--- the largest level, which belongs to the plan by name
+-- the largest level
 abbrev pub largest-level : ℕ
 largest-level = 32
 
--- the standard pair: identity and Pascal's triangle modulo 2, 32 columns each
+-- 2: the level is not 1 to the largest
+abbrev pub unknown-level : ℕ → Test
+unknown-level level = record { number = 2; holds = ltb level 1 || ltb largest-level level }
+
+-- ---- the standard pair
+
+-- a plan of given matrices
+abbrev pub of-matrices : Generators → Plan
+of-matrices G = record { x = G .X; y = G .Y }
+
+-- identity and Pascal's triangle modulo 2
 abbrev pub standard-pair : Plan
 standard-pair = of-matrices standard-matrices
+
+-- ---- matrices from words
 
 -- 1: not 64 words
 abbrev pub not-a-pair : List ℕ → Test
 not-a-pair words = record { number = 1; holds = not (eqb (length words) 64) }
 
-abbrev pub loading : List ℕ → Outcome Unit
-loading words = first (not-a-pair words ∷ []) (accepted tt)
+-- what loading words comes to
+abbrev pub load-outcome : List ℕ → Outcome Unit
+load-outcome words = first (not-a-pair words ∷ []) (accepted tt)
 
--- the columns of X first; of words that are refused every column is 0
+-- the matrices loaded, the columns of X first; of words that are refused every column is 0
 abbrev pub loaded : List ℕ → Plan
-loaded words = granted (loading words) (record { x = take 32 words; y = drop 32 words }) (record { x = replicate 32 0; y = replicate 32 0 })
+loaded words = granted (load-outcome words) (record { x = take 32 words; y = drop 32 words }) (record { x = replicate 32 0; y = replicate 32 0 })

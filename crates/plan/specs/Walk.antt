@@ -1,4 +1,4 @@
--- The code's walks as those of net, and what opening one answers.
+-- What opening a walk comes to, and the code's walks, visits and steps as those of net.
 use mathlib.Core.List.{[], _∷_}
 use Prim.Native.Nat.{ℕ}
 use Rattle.net.specs.Run.{Visit}
@@ -14,6 +14,11 @@ use Rattle.plan.specs.declared.walks.Stepped.{Stepped as SteppedCode}
 use Rattle.plan.specs.declared.walks.Opened.{Opened as OpenedCode}
 use Rattle.plan.specs.declared.walks.Opened.the-variants as opened
 
+-- a walk over count visits from start on, or a refusal
+abbrev pub open-outcome : ℕ → ℕ → Outcome Walk
+open-outcome start count = first (past-last start count ∷ []) (accepted (record { next = start; left = count }))
+
+-- field by field, and case by case
 abbrev pub of-walk : WalkCode → Walk
 of-walk w = record { next = w .next; left = w .left }
 
@@ -30,6 +35,3 @@ of-stepped r = record { answer = of-step (r .step); walk = of-walk (r .walk) }
 abbrev pub of-opened : OpenedCode → Outcome Walk
 of-opened (opened.Open w) = accepted (of-walk w)
 of-opened (opened.Refused r) = of-refusal r
-
-abbrev pub opening : ℕ → ℕ → Outcome Walk
-opening start count = first (past-last start count ∷ []) (accepted (record { next = start; left = count }))

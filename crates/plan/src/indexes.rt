@@ -2,7 +2,11 @@
 ghost use mathlib.Core.Path.{_≡_};
 ghost use Rattle.plan.specs.Range.{past-last};
 
+// An index of a visit.
 pub type Index = u32;
+
+// Its bits, and the last index.
+pub const INDEX_BITS: u32 = 32;
 
 pub const LAST_INDEX: Index = 4294967295;
 

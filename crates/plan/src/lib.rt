@@ -7,6 +7,7 @@ mod pair;
 mod walks;
 
 pub use fills::fill;
+pub use indexes::INDEX_BITS;
 pub use indexes::Index;
 pub use pair::Loaded;
 pub use pair::Plan;

@@ -3,15 +3,16 @@ ghost use mathlib.Core.Path.{_≡_};
 ghost use lib.ListN.{length};
 ghost use Rattle.net.specs.Sequence.{point};
 ghost use Rattle.refusal.specs.Refusal.{of-judgement};
-ghost use Rattle.plan.specs.Pair.{sequence, standard-pair, loading, loaded, of-point};
+ghost use Rattle.plan.specs.Pair.{sequence, standard-pair, unknown-level, load-outcome, loaded, of-point};
 use crate::Index;
 use refusal::Judgement;
 use refusal::Refusal;
+use word::Columns;
 
 // Two generator matrices by their columns: column c belongs to index bit c, and row 0 is the top bit of a column.
 pub struct Plan {
-    pub x: [u32; 32],
-    pub y: [u32; 32],
+    pub x: Columns,
+    pub y: Columns,
 }
 
 // A digital shift (01: scramble): a word for each axis, added without carries.
@@ -20,6 +21,7 @@ pub struct Shift {
     pub y: u32,
 }
 
+// The two coordinates of a visit.
 pub struct Point {
     pub x: u32,
     pub y: u32,
@@ -32,7 +34,18 @@ pub struct Loaded {
 }
 
 impl Plan {
+    // The largest level to which matrices can be checked: one for each row.
     pub const LARGEST_LEVEL: u32 = 32;
+
+    // Whether the level is not 1 to the largest.
+    pub fn unknown_level(level: u32) -> bool
+        ensures { λ r. ⌜ r ≡ unknown-level level .holds ⌝ }
+    {
+        if level < 1 {
+            return true;
+        }
+        level > Plan::LARGEST_LEVEL
+    }
 
     // Identity and Pascal's triangle modulo 2.
     pub fn standard() -> Plan
@@ -45,7 +58,7 @@ impl Plan {
 
     // The matrices that 64 words hold, the columns of X first.
     pub fn load(words: &[u32]) -> Loaded
-        ensures answer { λ r. ⌜ of-judgement (r .answer) ≡ loading (now (words .entry)) ⌝ }
+        ensures answer { λ r. ⌜ of-judgement (r .answer) ≡ load-outcome (now (words .entry)) ⌝ }
         ensures plan { λ r. ⌜ r .plan ≡ loaded (now (words .entry)) ⌝ }
     {
         if words.len() != 64 {
@@ -88,7 +101,7 @@ impl Plan {
 }
 
 // A copy of 32 words.
-fn copied(words: &[u32]) -> [u32; 32]
+fn copied(words: &[u32]) -> Columns
     requires { ⌜ length (now words) ≡ 32 ⌝ }
     ensures { λ r. ⌜ r ≡ now (words .entry) ⌝ }
 {

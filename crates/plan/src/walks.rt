@@ -4,7 +4,7 @@ ghost use Rattle.net.specs.Run.{visit};
 ghost use Rattle.net.specs.Walk.{step};
 ghost use Rattle.plan.specs.Pair.{sequence};
 ghost use Rattle.plan.specs.Range.{last-index};
-ghost use Rattle.plan.specs.Walk.{opening, of-opened, of-walk, of-stepped};
+ghost use Rattle.plan.specs.Walk.{open-outcome, of-opened, of-walk, of-stepped};
 use crate::Index;
 use crate::Plan;
 use crate::Shift;
@@ -18,6 +18,7 @@ pub struct Walk {
     pub left: u64,
 }
 
+// The walk, or why there is none.
 pub enum Opened {
     Open(Walk),
     Refused(Refusal),
@@ -30,11 +31,13 @@ pub struct Visit {
     pub y: u32,
 }
 
+// What a step gives: the next visit, or the end.
 pub enum Step {
     Visited(Visit),
     Ended,
 }
 
+// A step together with the walk after it.
 pub struct Stepped {
     pub step: Step,
     pub walk: Walk,
@@ -43,7 +46,7 @@ pub struct Stepped {
 impl Walk {
     // A walk over count visits from start on.
     pub fn open(start: Index, count: u64) -> Opened
-        ensures { λ r. ⌜ of-opened r ≡ opening start count ⌝ }
+        ensures { λ r. ⌜ of-opened r ≡ open-outcome start count ⌝ }
     {
         if past_last(start, count) {
             return Opened::Refused(Refusal::IndexRange);

@@ -14,14 +14,15 @@ use Rattle.refusal.proofs.First.{first-none, first-passes, accepted-refused}
 use Rattle.plan.specs.declared.pair.Plan.{Plan}
 use Rattle.plan.specs.declared.pair.Shift.{Shift}
 use Rattle.plan.specs.Pair.{generators, loaded}
-use Rattle.stratify.specs.Answers.{of-verdict, checking, of-location, querying, Level, Cell}
-use Rattle.stratify.proofs.Tests.{level-known, cell-within}
+use Rattle.stratify.specs.Answers.{of-verdict, check-outcome, of-location, query-outcome, Level, Cell}
+use Rattle.plan.proofs.Level.{level-known}
+use Rattle.stratify.proofs.Tests.{cell-within}
 
 -- ---- past the tests
 
-pub querying-locate : (P : Plan) (s : Shift) (level m a c r k : ℕ) → Level level → Cell level m a k c r
-    → querying P s level m a c r k ≡ of-location m a (locate (generators P) (shift 2 (s .x) (s .y)) m a k c r)
-querying-locate P s level m a c r k known cell =
+pub query-outcome-is : (P : Plan) (s : Shift) (level m a c r k : ℕ) → Level level → Cell level m a k c r
+    → query-outcome P s level m a c r k ≡ of-location m a (locate (generators P) (shift 2 (s .x) (s .y)) m a k c r)
+query-outcome-is P s level m a c r k known cell =
     let after = of-location m a (locate (generators P) (shift 2 (s .x) (s .y)) m a k c r) in
     first-passes after 2 _ (level-known level (known .positive) (known .known))
     ∙ first-passes after 4 _ (le-ltb level m (cell .size))
@@ -30,9 +31,9 @@ querying-locate P s level m a c r k known cell =
     ∙ first-passes after 7 [] (lt-leb (2 ^ (32 - m)) k (cell .block))
     ∙ first-none after
 
-pub checking-check : (words : List ℕ) (level : ℕ) → length words ≡ 64 → Level level
-    → checking words level ≡ of-verdict (check (generators (loaded words)) level)
-checking-check words level long known =
+pub check-outcome-is : (words : List ℕ) (level : ℕ) → length words ≡ 64 → Level level
+    → check-outcome words level ≡ of-verdict (check (generators (loaded words)) level)
+check-outcome-is words level long known =
     let after = of-verdict (check (generators (loaded words)) level) in
     first-passes after 1 _ (ap not (eq-eqb (length words) 64 long))
     ∙ first-passes after 2 [] (level-known level (known .positive) (known .known))

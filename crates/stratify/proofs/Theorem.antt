@@ -34,16 +34,16 @@ use Rattle.refusal.specs.Outcome.{accepted}
 use Rattle.refusal.proofs.First.{first-accepted}
 use Rattle.plan.specs.declared.pair.Plan.{Plan}
 use Rattle.plan.specs.declared.pair.Shift.{Shift}
-use Rattle.plan.specs.Pair.{generators, sequence, largest-level, loaded}
+use Rattle.plan.specs.Pair.{generators, sequence, largest-level, unknown-level, loaded}
 use Rattle.plan.specs.Range.{last-index}
 use Rattle.plan.proofs.Loading.{loaded-accepted}
 use Rattle.plan.proofs.Lists.{filled-visits, opened, steps, walk-visits}
-use Rattle.stratify.specs.Answers.{of-verdict, of-location, checking, querying, unknown-level, Words, Level, Cell}
+use Rattle.stratify.specs.Answers.{of-verdict, of-location, check-outcome, query-outcome, ShiftFits, Level, Cell}
 use Rattle.stratify.specs.Theorem.{Related, VisitedOnce, Covered, Queried, Checked, Lists, GivesRun, StandardPair, Theorems}
-use Rattle.stratify.proofs.Tests.{level-bounds}
-use Rattle.stratify.proofs.Outcomes.{querying-locate, checking-check, verdict-accepted, verdict-not-net, location-accepted, location-not-net}
+use Rattle.plan.proofs.Level.{level-bounds}
+use Rattle.stratify.proofs.Outcomes.{query-outcome-is, check-outcome-is, verdict-accepted, verdict-not-net, location-accepted, location-not-net}
 
-lawful : (s : Shift) → Words s → Lawful 2 32 (shift 2 (s .x) (s .y))
+lawful : (s : Shift) → ShiftFits s → Lawful 2 32 (shift 2 (s .x) (s .y))
 lawful s words = record { x = shift-lawful one-lt-two 32 (s .x) (words .x); y = shift-lawful one-lt-two 32 (s .y) (words .y) }
 
 -- ---- 1, 2: a plan that passes
@@ -52,7 +52,7 @@ module _ {P : Plan} (valid : Valid (generators P)) {M : ℕ} (fits : M ≤ large
   N : Net (generators P) M
   N = net.theorems .net valid two M fits passes
 
-  module _ (s : Shift) (words : Words s) (m a k c r : ℕ) (cell : Cell M m a k c r) where
+  module _ (s : Shift) (words : ShiftFits s) (m a k c r : ℕ) (cell : Cell M m a k c r) where
     abbrev S : Sequence
     S = sequence P s
 
@@ -60,11 +60,11 @@ module _ {P : Plan} (valid : Valid (generators P)) {M : ℕ} (fits : M ≤ large
     one-visit = (_, N .stratified m a (cell .size) (cell .wide) .one-visit (shift 2 (s .x) (s .y)) (lawful s words) k c r (cell .column) (cell .row))
 
     -- the query's answer, for any level that admits the cell
-    answered : (i : ℕ) → Only (VisitIn S m a k c r) i → (level : ℕ) → Level level → m ≤ level → querying P s level m a c r k ≡ accepted i
+    answered : (i : ℕ) → Only (VisitIn S m a k c r) i → (level : ℕ) → Level level → m ≤ level → query-outcome P s level m a c r k ≡ accepted i
     answered i only level known size =
         let own : Cell level m a k c r = record { size = size; wide = cell .wide; column = cell .column; row = cell .row; block = cell .block } in
         let odd = nonzero (generators P) M passes m a (cell .size) (cell .wide) in
-        querying-locate P s level m a c r k known own
+        query-outcome-is P s level m a c r k known own
         ∙ ap (of-location m a) (locate-found (generators P) (shift 2 (s .x) (s .y)) m a k c r i odd only)
 
     -- in base two a difference is an exclusive or
@@ -114,7 +114,7 @@ module _ {P : Plan} (valid : Valid (generators P)) {M : ℕ} (fits : M ≤ large
 
 -- ---- 3: the query
 
-module _ {P : Plan} (valid : Valid (generators P)) {s : Shift} (words : Words s) {level m a c r k : ℕ} (known : Level level)
+module _ {P : Plan} (valid : Valid (generators P)) {s : Shift} (words : ShiftFits s) {level m a c r k : ℕ} (known : Level level)
     (cell : Cell level m a k c r) where
   shape : Shape (generators P) m a
   shape = let size = cell .size in let top = known .known in record { valid = valid; wide = cell .wide; fits = omega arith }
@@ -122,8 +122,8 @@ module _ {P : Plan} (valid : Valid (generators P)) {s : Shift} (words : Words s)
   L : Located (generators P) (shift 2 (s .x) (s .y)) m a k c r
   L = net.theorems .located shape two (lawful s words) k c r (cell .column) (cell .row)
 
-  is : querying P s level m a c r k ≡ of-location m a (locate (generators P) (shift 2 (s .x) (s .y)) m a k c r)
-  is = querying-locate P s level m a c r k known cell
+  is : query-outcome P s level m a c r k ≡ of-location m a (locate (generators P) (shift 2 (s .x) (s .y)) m a k c r)
+  is = query-outcome-is P s level m a c r k known cell
 
   queried : Queried P s level m a c r k
   queried = record {
@@ -137,12 +137,12 @@ module _ {P : Plan} (valid : Valid (generators P)) {s : Shift} (words : Words s)
     refusal-iff = λ j. (λ e. L .no-net-iff j .0 (location-not-net m a is j .0 e), λ h. location-not-net m a is j .1 (L .no-net-iff j .1 h));
   }
 
-size-zero : {P : Plan} → Valid (generators P) → {s : Shift} → Words s → {level : ℕ} → Level level → {k : ℕ} → k < 2 ^ 32
-    → querying P s level 0 0 0 0 k ≡ accepted k
+size-zero : {P : Plan} → Valid (generators P) → {s : Shift} → ShiftFits s → {level : ℕ} → Level level → {k : ℕ} → k < 2 ^ 32
+    → query-outcome P s level 0 0 0 0 k ≡ accepted k
 size-zero {P} valid {s} words {level} known {k} h =
     let one-cell : 0 < 2 ^ 0 = omega arith in
     let cell : Cell level 0 0 k 0 0 = record { size = omega arith; wide = omega arith; column = one-cell; row = one-cell; block = h } in
-    location-accepted 0 0 (querying-locate P s level 0 0 0 0 k known cell) k .1 (net.theorems .size-zero valid (lawful s words) k)
+    location-accepted 0 0 (query-outcome-is P s level 0 0 0 0 k known cell) k .1 (net.theorems .size-zero valid (lawful s words) k)
 
 -- ---- 4: the check
 
@@ -165,8 +165,8 @@ checked words below long {level} known = record {
     C : NetChecked (generators (loaded words)) level
     C = net.theorems .checked (valid-loaded words below long) two level (known .known)
 
-    is : checking words level ≡ of-verdict (check (generators (loaded words)) level)
-    is = checking-check words level long known
+    is : check-outcome words level ≡ of-verdict (check (generators (loaded words)) level)
+    is = check-outcome-is words level long known
 
 -- ---- 5: the lists
 
@@ -202,7 +202,7 @@ gives-run P s m k = record {
 
 -- ---- words that the check accepts
 
-accepted-covered : (words : List ℕ) → Below (2 ^ 32) words → (M : ℕ) → checking words M ≡ accepted tt → Covered (loaded words) M
+accepted-covered : (words : List ℕ) → Below (2 ^ 32) words → (M : ℕ) → check-outcome words M ≡ accepted tt → Covered (loaded words) M
 accepted-covered words below M e =
     let (one, rest) = first-accepted _ 1 _ (not (eqb (length words) 64)) e in
     let (second, last) = first-accepted _ 2 _ (unknown-level M .holds) rest in

@@ -3,7 +3,6 @@ use mathlib.Core.Bool.{_||_}
 use mathlib.Core.List.{List, [], _∷_}
 use Prim.Native.Nat.{ℕ, _-_, _^_, _≤_, _<_}
 use lib.Dec.{leb, ltb}
-use Rattle.net.specs.Finish.{shift}
 use Rattle.net.specs.Check.{Verdict, passed, refused, check}
 use Rattle.net.specs.Query.{Location, found, no-net, locate}
 use Rattle.refusal.specs.Outcome.{Outcome, accepted, not-net, Test, first}
@@ -11,21 +10,17 @@ use Rattle.refusal.specs.Refusal.{of-refusal}
 use Rattle.plan.specs.declared.pair.Plan.{Plan}
 use Rattle.plan.specs.declared.pair.Shift.{Shift}
 use Rattle.plan.specs.Range.{index-bits}
-use Rattle.plan.specs.Pair.{generators, loaded, not-a-pair, largest-level}
+use Rattle.plan.specs.Pair.{generators, finish, loaded, not-a-pair, largest-level, unknown-level}
 use Rattle.stratify.specs.declared.cells.Located.{Located}
 use Rattle.stratify.specs.declared.cells.Located.the-variants as located
-
--- 2: the level is not 1 to 32
-abbrev pub unknown-level : ℕ → Test
-unknown-level level = record { number = 2; holds = ltb level 1 || ltb largest-level level }
 
 -- the check refuses under 1, 2 and 3, and 3 gives the first bad shape and its j
 abbrev pub of-verdict : Verdict → Outcome Unit
 of-verdict passed = accepted tt
 of-verdict (refused m a j) = not-net m a j
 
-abbrev pub checking : List ℕ → ℕ → Outcome Unit
-checking words level = first (not-a-pair words ∷ unknown-level level ∷ []) (of-verdict (check (generators (loaded words)) level))
+abbrev pub check-outcome : List ℕ → ℕ → Outcome Unit
+check-outcome words level = first (not-a-pair words ∷ unknown-level level ∷ []) (of-verdict (check (generators (loaded words)) level))
 
 -- the query refuses under 2, 4, 5, 6, 7 and 3, and 3 gives its own shape (m, a) and that shape's j
 abbrev pub of-location : ℕ → ℕ → Location → Outcome ℕ
@@ -42,9 +37,9 @@ query-tests level m a c r k =
     ∷ []
 
 -- column c and row r of the shape (m, a), in block k
-abbrev pub querying : Plan → Shift → (level m a c r k : ℕ) → Outcome ℕ
-querying P s level m a c r k =
-    first (query-tests level m a c r k) (of-location m a (locate (generators P) (shift 2 (s .x) (s .y)) m a k c r))
+abbrev pub query-outcome : Plan → Shift → (level m a c r k : ℕ) → Outcome ℕ
+query-outcome P s level m a c r k =
+    first (query-tests level m a c r k) (of-location m a (locate (generators P) (finish s) m a k c r))
 
 -- the code's answer
 abbrev pub of-located : Located → Outcome ℕ
@@ -67,6 +62,6 @@ pub record Cell (M m a k c r : ℕ) : Type 0 where
   pub block : k < 2 ^ (index-bits - m)
 
 -- and a shift of words, as the code's is
-pub record Words (s : Shift) : Type 0 where
+pub record ShiftFits (s : Shift) : Type 0 where
   pub x : s .x < 2 ^ 32
   pub y : s .y < 2 ^ 32

@@ -21,11 +21,11 @@ use Rattle.refusal.specs.Outcome.{accepted, not-net}
 use Rattle.plan.specs.declared.pair.Plan.{Plan}
 use Rattle.plan.specs.declared.pair.Shift.{Shift}
 use Rattle.plan.specs.Pair.{generators, sequence, standard-pair, largest-level, loaded}
-use Rattle.plan.specs.Fill.{filling, filled}
+use Rattle.plan.specs.Fill.{fill-outcome, filled}
 use Rattle.plan.specs.Range.{index-bits, last-index}
-use Rattle.plan.specs.Walk.{opening}
+use Rattle.plan.specs.Walk.{open-outcome}
 use Rattle.plan.specs.Lists.{pointed, held, walked}
-use Rattle.stratify.specs.Answers.{Words, Level, Cell, checking, querying}
+use Rattle.stratify.specs.Answers.{ShiftFits, Level, Cell, check-outcome, query-outcome}
 
 -- ---- 1, 2: one visit in every cell of every shape, and its relation to the plain run
 
@@ -35,7 +35,7 @@ pub record Related (P : Plan) (s : Shift) (m a k c r p : ℕ) : Type 0 where
   pub plain-visit : Only (VisitIn (plain (generators P)) m a 0
       (bitXor c (column (sequence P s) a (k * 2 ^ m))) (bitXor r (row (sequence P s) (m - a) (k * 2 ^ m)))) p
   pub block-visit : Only (VisitIn (sequence P s) m a k c r) (k * 2 ^ m + p)
-  pub answer : (level : ℕ) → Level level → m ≤ level → querying P s level m a c r k ≡ accepted (k * 2 ^ m + p)
+  pub answer : (level : ℕ) → Level level → m ≤ level → query-outcome P s level m a c r k ≡ accepted (k * 2 ^ m + p)
 
 -- column c and row r of block k: exactly one visit, its relation to the plain run, and one visit in what point calls, a fill and the
 -- steps of a walk give for the block
@@ -43,24 +43,24 @@ pub record VisitedOnce (P : Plan) (s : Shift) (m a k c r : ℕ) : Type 0 where
   pub one-visit : One (VisitIn (sequence P s) m a k c r)
   pub relation : (p : ℕ) × Related P s m a k c r p
   pub points : hits (sequence P s) m a c r (pointed (sequence P s) (k * 2 ^ m) (2 ^ m)) ≡ 1
-  pub fills : (xs ys : List ℕ) → filling (k * 2 ^ m) xs ys ≡ accepted tt → 2 ^ m ≤ length xs
+  pub fills : (xs ys : List ℕ) → fill-outcome (k * 2 ^ m) xs ys ≡ accepted tt → 2 ^ m ≤ length xs
       → hits (sequence P s) m a c r (take (2 ^ m) (held (k * 2 ^ m) (filled (sequence P s) (k * 2 ^ m) xs ys))) ≡ 1
-  pub walks : (count n : ℕ) (w : Walk) → opening (k * 2 ^ m) count ≡ accepted w → 2 ^ m ≤ count → 2 ^ m ≤ n
+  pub walks : (count n : ℕ) (w : Walk) → open-outcome (k * 2 ^ m) count ≡ accepted w → 2 ^ m ≤ count → 2 ^ m ≤ n
       → hits (sequence P s) m a c r (take (2 ^ m) (walked (sequence P s) n w)) ≡ 1
 
 -- what passing level M is worth: this holds under every shift, in every shape of a size from 0 to M, every cell and every block
 abbrev pub Covered : Plan → ℕ → Type 0
-Covered P M = (s : Shift) → Words s → (m a k c r : ℕ) → Cell M m a k c r → VisitedOnce P s m a k c r
+Covered P M = (s : Shift) → ShiftFits s → (m a k c r : ℕ) → Cell M m a k c r → VisitedOnce P s m a k c r
 
 -- ---- 3: the query of any plan, checked or not
 
 -- it answers exactly where the determinant of its own shape is odd, and then with the only index of the block in the cell; else it
 -- refuses under 3 with that shape and its least j
 pub record Queried (P : Plan) (s : Shift) (level m a c r k : ℕ) : Type 0 where
-  pub answers-iff : ((i : ℕ) × (querying P s level m a c r k ≡ accepted i)) ↔ (determinant (generators P) m a ≢ 0)
-  pub answer-iff : (i : ℕ) → (querying P s level m a c r k ≡ accepted i)
+  pub answers-iff : ((i : ℕ) × (query-outcome P s level m a c r k ≡ accepted i)) ↔ (determinant (generators P) m a ≢ 0)
+  pub answer-iff : (i : ℕ) → (query-outcome P s level m a c r k ≡ accepted i)
       ↔ ((determinant (generators P) m a ≢ 0) × Only (VisitIn (sequence P s) m a k c r) i)
-  pub refusal-iff : (j : ℕ) → (querying P s level m a c r k ≡ not-net m a j)
+  pub refusal-iff : (j : ℕ) → (query-outcome P s level m a c r k ≡ not-net m a j)
       ↔ ((determinant (generators P) m a ≡ 0) × Least (plain (generators P)) m a j)
 
 -- ---- 4: the check
@@ -68,14 +68,14 @@ pub record Queried (P : Plan) (s : Shift) (level m a c r k : ℕ) : Type 0 where
 -- It accepts exactly what passes. It refuses exactly where a determinant of a size within the level is even, exactly where a cell of
 -- such a size holds two visits of the plain run. The shape that it names is the first in both readings, and j is the least.
 pub record Checked (words : List ℕ) (level : ℕ) : Type 0 where
-  pub accepted-iff : (checking words level ≡ accepted tt) ↔ Passes (generators (loaded words)) level
-  pub even-iff : (checking words level ≢ accepted tt)
+  pub accepted-iff : (check-outcome words level ≡ accepted tt) ↔ Passes (generators (loaded words)) level
+  pub even-iff : (check-outcome words level ≢ accepted tt)
       ↔ ((m : ℕ) × (a : ℕ) × (0 < m) × (m ≤ level) × (a ≤ m) × (determinant (generators (loaded words)) m a ≡ 0))
-  pub crowded-iff : (checking words level ≢ accepted tt)
+  pub crowded-iff : (check-outcome words level ≢ accepted tt)
       ↔ ((m : ℕ) × (a : ℕ) × (m ≤ level) × (a ≤ m) × Crowded (plain (generators (loaded words))) m a)
-  pub refusal-iff : (m a j : ℕ) → (checking words level ≡ not-net m a j)
+  pub refusal-iff : (m a j : ℕ) → (check-outcome words level ≡ not-net m a j)
       ↔ (First (generators (loaded words)) level m a × Least (plain (generators (loaded words))) m a j)
-  pub refusal-even-iff : (m a j : ℕ) → (checking words level ≡ not-net m a j)
+  pub refusal-even-iff : (m a j : ℕ) → (check-outcome words level ≡ not-net m a j)
       ↔ (FirstZero (generators (loaded words)) level m a × Least (plain (generators (loaded words))) m a j)
 
 -- ---- 5: points, fills and walks give the run
@@ -84,12 +84,12 @@ pub record Checked (words : List ℕ) (level : ℕ) : Type 0 where
 -- what the last walk holds (`Walked`); also for walks made by hand.
 pub record Lists (P : Plan) (s : Shift) : Type 0 where
   pub points : (start n : ℕ) → pointed (sequence P s) start n ≡ visits (sequence P s) start n
-  pub fills : (start : ℕ) (xs ys : List ℕ) → filling start xs ys ≡ accepted tt
+  pub fills : (start : ℕ) (xs ys : List ℕ) → fill-outcome start xs ys ≡ accepted tt
       → held start (filled (sequence P s) start xs ys) ≡ visits (sequence P s) start (length xs)
-  pub opened : (start count : ℕ) (w : Walk) → opening start count ≡ accepted w → w ≡ record { next = start; left = count }
-  pub steps : (start count : ℕ) (w : Walk) → opening start count ≡ accepted w → start ≤ last-index
+  pub opened : (start count : ℕ) (w : Walk) → open-outcome start count ≡ accepted w → w ≡ record { next = start; left = count }
+  pub steps : (start count : ℕ) (w : Walk) → open-outcome start count ≡ accepted w → start ≤ last-index
       → (n : ℕ) → Walked (visit (sequence P s)) last-index start count n
-  pub walks : (start count : ℕ) (w : Walk) → opening start count ≡ accepted w → start ≤ last-index
+  pub walks : (start count : ℕ) (w : Walk) → open-outcome start count ≡ accepted w → start ≤ last-index
       → (n : ℕ) → walked (sequence P s) n w ≡ visits (sequence P s) start (min n count)
   pub by-hand : (w : Walk) (n : ℕ) → WalkedByHand (visit (sequence P s)) last-index w n
 
@@ -97,9 +97,9 @@ pub record Lists (P : Plan) (s : Shift) : Type 0 where
 -- a walk opened at its first index gives the run, as far as it goes into the block.
 pub record GivesRun (P : Plan) (s : Shift) (m k : ℕ) : Type 0 where
   pub points : pointed (sequence P s) (k * 2 ^ m) (2 ^ m) ≡ run (sequence P s) m k
-  pub fills : (p : ℕ) (xs ys : List ℕ) → filling (k * 2 ^ m + p) xs ys ≡ accepted tt
+  pub fills : (p : ℕ) (xs ys : List ℕ) → fill-outcome (k * 2 ^ m + p) xs ys ≡ accepted tt
       → take (2 ^ m - p) (held (k * 2 ^ m + p) (filled (sequence P s) (k * 2 ^ m + p) xs ys)) ≡ take (length xs) (drop p (run (sequence P s) m k))
-  pub walks : (count n : ℕ) (w : Walk) → opening (k * 2 ^ m) count ≡ accepted w → k * 2 ^ m ≤ last-index
+  pub walks : (count n : ℕ) (w : Walk) → open-outcome (k * 2 ^ m) count ≡ accepted w → k * 2 ^ m ≤ last-index
       → take (2 ^ m) (walked (sequence P s) n w) ≡ take (min n count) (run (sequence P s) m k)
 
 -- ---- the standard pair
@@ -115,14 +115,14 @@ pub record StandardPair : Type 0 where
 pub record Theorems : Type 0 where
   -- of a plan whose columns are words (as the code's are)
   pub covered : {P : Plan} → Valid (generators P) → {M : ℕ} → M ≤ largest-level → Passes (generators P) M → Covered P M
-  pub queried : {P : Plan} → Valid (generators P) → {s : Shift} → Words s
+  pub queried : {P : Plan} → Valid (generators P) → {s : Shift} → ShiftFits s
       → {level m a c r k : ℕ} → Level level → Cell level m a k c r → Queried P s level m a c r k
   -- (01: for m 0 the answer is the number of the block)
-  pub size-zero : {P : Plan} → Valid (generators P) → {s : Shift} → Words s → {level : ℕ} → Level level
-      → {k : ℕ} → k < 2 ^ index-bits → querying P s level 0 0 0 0 k ≡ accepted k
+  pub size-zero : {P : Plan} → Valid (generators P) → {s : Shift} → ShiftFits s → {level : ℕ} → Level level
+      → {k : ℕ} → k < 2 ^ index-bits → query-outcome P s level 0 0 0 0 k ≡ accepted k
   -- of 64 words
   pub checked : (words : List ℕ) → Below (2 ^ 32) words → length words ≡ 64 → {level : ℕ} → Level level → Checked words level
-  pub accepted-covered : (words : List ℕ) → Below (2 ^ 32) words → (M : ℕ) → checking words M ≡ accepted tt → Covered (loaded words) M
+  pub accepted-covered : (words : List ℕ) → Below (2 ^ 32) words → (M : ℕ) → check-outcome words M ≡ accepted tt → Covered (loaded words) M
   -- of any plan and shift
   pub lists : (P : Plan) (s : Shift) → Lists P s
   pub gives-run : (P : Plan) (s : Shift) (m k : ℕ) → GivesRun P s m k

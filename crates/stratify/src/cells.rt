@@ -7,12 +7,11 @@ ghost use Rattle.net.specs.Finish.{shift, shifted};
 ghost use Rattle.net.specs.Query.{locate};
 ghost use Rattle.net.specs.Elimination.{plain-interval};
 ghost use Rattle.plan.specs.Pair.{pair};
-ghost use Rattle.stratify.specs.Answers.{Cell, of-located, of-location, querying};
+ghost use Rattle.stratify.specs.Answers.{Cell, of-located, of-location, query-outcome};
 use crate::bits::join;
 use crate::bits::top;
 use crate::elimination::eliminate;
 use crate::elimination::sweep;
-use crate::levels::unknown_level;
 use plan::Index;
 use plan::Plan;
 use plan::Shift;
@@ -94,9 +93,9 @@ pub fn query(
     row: u32,
     block: Block,
 ) -> Located
-    ensures { λ r. ⌜ of-located r ≡ querying plan shift level m a column row block ⌝ }
+    ensures { λ r. ⌜ of-located r ≡ query-outcome plan shift level m a column row block ⌝ }
 {
-    if unknown_level(level) {
+    if Plan::unknown_level(level) {
         return Located::Refused(Refusal::Level);
     }
     if m > level {

@@ -3,7 +3,6 @@
 mod bits;
 mod cells;
 mod elimination;
-mod levels;
 mod shapes;
 
 pub use cells::Block;

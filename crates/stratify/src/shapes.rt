@@ -5,9 +5,8 @@ ghost use Rattle.net.specs.Generators.{Valid};
 ghost use Rattle.net.specs.Check.{check};
 ghost use Rattle.refusal.specs.Refusal.{of-judgement};
 ghost use Rattle.plan.specs.Pair.{pair};
-ghost use Rattle.stratify.specs.Answers.{of-verdict, checking};
+ghost use Rattle.stratify.specs.Answers.{of-verdict, check-outcome};
 use crate::elimination::eliminate;
-use crate::levels::unknown_level;
 use plan::Plan;
 use refusal::Judgement;
 use refusal::Refusal;
@@ -37,7 +36,7 @@ fn scan(x: [u32; 32], y: [u32; 32], level: u32) -> Judgement
 
 // Whether the generator matrices that 64 words hold, the columns of X first, pass the level.
 pub fn check(words: &[u32], level: u32) -> Judgement
-    ensures { λ r. ⌜ of-judgement r ≡ checking (now (words .entry)) level ⌝ }
+    ensures { λ r. ⌜ of-judgement r ≡ check-outcome (now (words .entry)) level ⌝ }
 {
     let loaded = Plan::load(words);
     let answer = loaded.answer;
@@ -47,7 +46,7 @@ pub fn check(words: &[u32], level: u32) -> Judgement
         }
         Judgement::Accepted => {}
     }
-    if unknown_level(level) {
+    if Plan::unknown_level(level) {
         return Judgement::Refused(Refusal::Level);
     }
     let x = loaded.plan.x;

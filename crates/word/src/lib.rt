@@ -5,6 +5,7 @@ mod reversal;
 mod standard;
 mod triangle;
 
+pub use product::Columns;
 pub use product::coordinate;
 pub use reversal::reversed;
 pub use standard::identity_columns;

@@ -15,7 +15,8 @@ const MASKS: [u32; 5] = [
     0x5555_5555,
 ];
 
-// From a reversed index the second coordinate of the standard matrices: Pascal's triangle modulo 2 has this self-similar form.
+// From a reversed index to the second coordinate of the standard matrices. Each step adds to one half of every group of bits the
+// other half: Pascal's triangle modulo 2 of twice the size is three copies of itself.
 pub fn pascal(word: u32) -> u32
     ensures { λ r. ⌜ r ≡ product 2 (standard-matrices .Y) (reversed 2 32 word) ⌝ }
 {

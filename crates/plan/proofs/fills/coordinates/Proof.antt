@@ -1,19 +1,14 @@
 -- `plan::fills::coordinates` meets its contract: the first k words are the coordinates of the first k indexes. Assumes nothing.
-use mathlib.Core.List.{List}
-use Prim.Native.Nat.{ℕ, _≤_, _-_}
+use Prim.Native.Nat.{_≤_, _-_}
 use native.Mathlib.Omega.{arith}
 use lib.ListN.{length}
-use Rattle.digits.specs.Digits.{plus}
-use Rattle.net.specs.Generators.{product}
+use Rattle.word.specs.Coordinate.{shifted-coordinate}
 use Rattle.word.proofs.Filled.{Filled, filled-none, filled-more, filled-all}
 use Rattle.plan.proofs.fills.coordinates.Statement.{statement}
 use Rattle.plan.proofs.fills.coordinates.Tie as tie
 
-abbrev at : List ℕ → ℕ → ℕ → ℕ
-at columns shift i = plus 2 (product 2 columns i) shift
-
 abbrev Inv-loop : tie.InvT-loop
-Inv-loop columns shift start out₀ k₀ out k = (k ≤ length out₀) × Filled (at columns shift) start k out₀ out
+Inv-loop columns shift start out₀ k₀ out k = (k ≤ length out₀) × Filled (shifted-coordinate columns shift) start k out₀ out
 
 abbrev μ-loop : tie.MeasureT-loop
 μ-loop columns shift start out₀ k₀ out k = length out₀ - k

@@ -14,8 +14,9 @@ use Rattle.refusal.specs.Outcome.{Outcome, Test, first}
 use Rattle.refusal.proofs.First.{first-none, first-refuses, first-passes}
 use Rattle.plan.specs.Pair.{generators}
 use Rattle.plan.proofs.Laws.{words-valid}
-use Rattle.stratify.specs.Answers.{of-location, query-tests, querying}
-use Rattle.stratify.proofs.Tests.{below-limit, past-limit, level-bounds, column-past, row-past, cell-within}
+use Rattle.stratify.specs.Answers.{of-location, query-tests, query-outcome}
+use Rattle.plan.proofs.Level.{level-bounds}
+use Rattle.stratify.proofs.Tests.{below-limit, past-limit, column-past, row-past, cell-within}
 use Rattle.stratify.proofs.cells.query.Statement.{statement}
 use Rattle.stratify.proofs.cells.query.Tie as tie
 
@@ -31,7 +32,7 @@ located s =
 -- the first n tests do not hold
 abbrev Passed : ℕ → tie.Start → Type 0
 Passed n s =
-    querying (s .args .plan) (s .args .shift) (s .args .level) (s .args .m) (s .args .a) (s .args .column) (s .args .row) (s .args .block)
+    query-outcome (s .args .plan) (s .args .shift) (s .args .level) (s .args .m) (s .args .a) (s .args .column) (s .args .row) (s .args .block)
     ≡ first (drop n (tests s)) (located s)
 
 -- past the first test the level is at most the largest

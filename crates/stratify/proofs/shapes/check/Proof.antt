@@ -12,10 +12,10 @@ use Rattle.refusal.specs.Outcome.{Outcome, first}
 use Rattle.refusal.specs.Refusal.{of-judgement}
 use Rattle.refusal.proofs.First.{first-none, first-refuses, first-passes, alone-refuses, alone-passes}
 use Rattle.plan.specs.declared.pair.Plan.{Plan}
-use Rattle.plan.specs.Pair.{generators, loaded}
+use Rattle.plan.specs.Pair.{generators, loaded, unknown-level}
 use Rattle.plan.proofs.Laws.{words-valid}
-use Rattle.stratify.specs.Answers.{of-verdict, unknown-level, checking}
-use Rattle.stratify.proofs.Tests.{level-bounds}
+use Rattle.stratify.specs.Answers.{of-verdict, check-outcome}
+use Rattle.plan.proofs.Level.{level-bounds}
 use Rattle.stratify.proofs.shapes.check.Statement.{statement}
 use Rattle.stratify.proofs.shapes.check.Tie as tie
 
@@ -25,7 +25,7 @@ verdict s = of-verdict (check (generators (loaded (s .args .words .now))) (s .ar
 
 -- 64 words were loaded
 pair-passed : (c : tie.After-enum-told) → let s = c .before .before .before .before in
-    checking (s .args .words .now) (s .args .level) ≡ first (unknown-level (s .args .level) ∷ []) (verdict s)
+    check-outcome (s .args .words .now) (s .args .level) ≡ first (unknown-level (s .args .level) ∷ []) (verdict s)
 pair-passed c =
     let s = c .before .before .before .before in
     let loading-is = sym (c .before .before .load .ensures .0) ∙ ap of-judgement (c .enum-told .given .1) in

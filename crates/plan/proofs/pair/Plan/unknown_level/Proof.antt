@@ -1,8 +1,8 @@
--- `stratify::levels::unknown_level` meets its contract. Assumes nothing.
+-- `plan::pair::Plan::unknown_level` meets its contract. Assumes nothing.
 use mathlib.Core.Path.{sym}
-use Rattle.stratify.proofs.Tests.{level-low, level-high}
-use Rattle.stratify.proofs.levels.unknown_level.Statement.{statement}
-use Rattle.stratify.proofs.levels.unknown_level.Tie as tie
+use Rattle.plan.proofs.Level.{level-low, level-high}
+use Rattle.plan.proofs.pair.Plan.unknown_level.Statement.{statement}
+use Rattle.plan.proofs.pair.Plan.unknown_level.Tie as tie
 
 returns : tie.Need-returns
 returns c = sym (level-low (c .before .args .level) (c .if1 .taken))
