@@ -24,7 +24,7 @@ shift-by s = record { x = s; y = 0 }
 -- what an entry says, of the standard pair P
 abbrev pub Holds : Plan → Known → Type 0
 Holds P (point-at i x y) = point (sequence P (shift-by 0)) i ≡ (x, y)
-Holds P (index-in s m a c r k i) = query-outcome P (shift-by s) largest-level m a c r k ≡ accepted i
+Holds P (index-in s m a c r k i) = query-outcome P (shift-by s) largest-level m a k c r ≡ accepted i
 Holds P (refused-at word level m a j) = check-outcome (replicate 64 word) level ≡ not-net m a j
 
 abbrev pub All : Plan → List Known → Type 0

@@ -20,9 +20,9 @@ use Rattle.stratify.proofs.Tests.{cell-within}
 
 -- ---- past the tests
 
-pub query-outcome-is : (P : Plan) (s : Shift) (level m a c r k : ℕ) → Level level → Cell level m a k c r
-    → query-outcome P s level m a c r k ≡ of-location m a (locate (generators P) (shift 2 (s .x) (s .y)) m a k c r)
-query-outcome-is P s level m a c r k known cell =
+pub query-outcome-is : (P : Plan) (s : Shift) (level m a k c r : ℕ) → Level level → Cell level m a k c r
+    → query-outcome P s level m a k c r ≡ of-location m a (locate (generators P) (shift 2 (s .x) (s .y)) m a k c r)
+query-outcome-is P s level m a k c r known cell =
     let after = of-location m a (locate (generators P) (shift 2 (s .x) (s .y)) m a k c r) in
     first-passes after 2 _ (level-known level (known .positive) (known .known))
     ∙ first-passes after 4 _ (le-ltb level m (cell .size))

@@ -142,16 +142,17 @@ module _ {x y : List ℕ} {m a : ℕ} (shape : Shape (pair x y) m a) where
   eliminates-kernel words indexes j e =
       let least : Least (plain (pair x y)) m a j = meant (kernel j) e .least in
       let positive = least .positive in
-      record { least = λ n. least; solved = λ z. absurd (omega arith); images = λ z. absurd (omega arith) }
+      record { least = λ n. least; basis = λ z. absurd (omega arith) }
 
   pub eliminates-basis : (words indexes : List ℕ) (c : ℕ) → c ≡ m → Going L m words indexes c → Eliminates (pair x y) m a 0 words indexes
   eliminates-basis words indexes c e going =
       let done = rw e at going in
       let none : m - m ≡ 0 = omega arith in
+      let whole = done .left ∙ ap (λ (n : ℕ). eliminate 2 L choice n m (entries words indexes m)) none in
       record {
         least = λ n. absurd (n refl);
-        solved = λ z. meant (basis (entries words indexes m))
-            (done .left ∙ ap (λ (n : ℕ). eliminate 2 L choice n m (entries words indexes m)) none
-            ∙ eliminate-ends L choice m (entries words indexes m));
-        images = λ z. done .images;
+        basis = λ z. record {
+          answers = meant (basis (entries words indexes m)) (whole ∙ eliminate-ends L choice m (entries words indexes m));
+          images = done .images;
+        };
       }

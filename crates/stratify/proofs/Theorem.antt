@@ -60,11 +60,11 @@ module _ {P : Plan} (valid : Valid (generators P)) {M : ℕ} (fits : M ≤ large
     one-visit = (_, N .stratified m a (cell .size) (cell .wide) .one-visit (shift 2 (s .x) (s .y)) (lawful s words) k c r (cell .column) (cell .row))
 
     -- the query's answer, for any level that admits the cell
-    answered : (i : ℕ) → Only (VisitIn S m a k c r) i → (level : ℕ) → Level level → m ≤ level → query-outcome P s level m a c r k ≡ accepted i
+    answered : (i : ℕ) → Only (VisitIn S m a k c r) i → (level : ℕ) → Level level → m ≤ level → query-outcome P s level m a k c r ≡ accepted i
     answered i only level known size =
         let own : Cell level m a k c r = record { size = size; wide = cell .wide; column = cell .column; row = cell .row; block = cell .block } in
         let odd = nonzero (generators P) M passes m a (cell .size) (cell .wide) in
-        query-outcome-is P s level m a c r k known own
+        query-outcome-is P s level m a k c r known own
         ∙ ap (of-location m a) (locate-found (generators P) (shift 2 (s .x) (s .y)) m a k c r i odd only)
 
     -- in base two a difference is an exclusive or
@@ -114,7 +114,7 @@ module _ {P : Plan} (valid : Valid (generators P)) {M : ℕ} (fits : M ≤ large
 
 -- ---- 3: the query
 
-module _ {P : Plan} (valid : Valid (generators P)) {s : Shift} (words : ShiftFits s) {level m a c r k : ℕ} (known : Level level)
+module _ {P : Plan} (valid : Valid (generators P)) {s : Shift} (words : ShiftFits s) {level m a k c r : ℕ} (known : Level level)
     (cell : Cell level m a k c r) where
   shape : Shape (generators P) m a
   shape = let size = cell .size in let top = known .known in record { valid = valid; wide = cell .wide; fits = omega arith }
@@ -122,10 +122,10 @@ module _ {P : Plan} (valid : Valid (generators P)) {s : Shift} (words : ShiftFit
   L : Located (generators P) (shift 2 (s .x) (s .y)) m a k c r
   L = net.theorems .located shape two (lawful s words) k c r (cell .column) (cell .row)
 
-  is : query-outcome P s level m a c r k ≡ of-location m a (locate (generators P) (shift 2 (s .x) (s .y)) m a k c r)
-  is = query-outcome-is P s level m a c r k known cell
+  is : query-outcome P s level m a k c r ≡ of-location m a (locate (generators P) (shift 2 (s .x) (s .y)) m a k c r)
+  is = query-outcome-is P s level m a k c r known cell
 
-  queried : Queried P s level m a c r k
+  queried : Queried P s level m a k c r
   queried = record {
     answers-iff = (
       λ (i, e). L .found-iff i .0 (location-accepted m a is i .0 e) .0,
@@ -138,11 +138,11 @@ module _ {P : Plan} (valid : Valid (generators P)) {s : Shift} (words : ShiftFit
   }
 
 size-zero : {P : Plan} → Valid (generators P) → {s : Shift} → ShiftFits s → {level : ℕ} → Level level → {k : ℕ} → k < 2 ^ 32
-    → query-outcome P s level 0 0 0 0 k ≡ accepted k
+    → query-outcome P s level 0 0 k 0 0 ≡ accepted k
 size-zero {P} valid {s} words {level} known {k} h =
     let one-cell : 0 < 2 ^ 0 = omega arith in
     let cell : Cell level 0 0 k 0 0 = record { size = omega arith; wide = omega arith; column = one-cell; row = one-cell; block = h } in
-    location-accepted 0 0 (query-outcome-is P s level 0 0 0 0 k known cell) k .1 (net.theorems .size-zero valid (lawful s words) k)
+    location-accepted 0 0 (query-outcome-is P s level 0 0 k 0 0 known cell) k .1 (net.theorems .size-zero valid (lawful s words) k)
 
 -- ---- 4: the check
 

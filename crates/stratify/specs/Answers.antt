@@ -14,32 +14,47 @@ use Rattle.plan.specs.Pair.{generators, finish, loaded, not-a-pair, largest-lev
 use Rattle.stratify.specs.declared.cells.Located.{Located}
 use Rattle.stratify.specs.declared.cells.Located.the-variants as located
 
--- the check refuses under 1, 2 and 3, and 3 gives the first bad shape and its j
+-- ---- the check
+
+-- passed, or 3 with the first bad shape and its j
 abbrev pub of-verdict : Verdict → Outcome Unit
 of-verdict passed = accepted tt
 of-verdict (refused m a j) = not-net m a j
 
+-- 1, 2, 3
 abbrev pub check-outcome : List ℕ → ℕ → Outcome Unit
 check-outcome words level = first (not-a-pair words ∷ unknown-level level ∷ []) (of-verdict (check (generators (loaded words)) level))
 
--- the query refuses under 2, 4, 5, 6, 7 and 3, and 3 gives its own shape (m, a) and that shape's j
+-- ---- the query, of column c and row r of the shape (m, a) in block k; its tests in base b with indexes of w digits
+
+-- 4: m above the level
+abbrev pub above-level : ℕ → ℕ → Test
+above-level level m = record { number = 4; holds = ltb level m }
+
+-- 5: a above m
+abbrev pub not-a-shape : ℕ → ℕ → Test
+not-a-shape m a = record { number = 5; holds = ltb m a }
+
+-- 6: column or row outside the shape
+abbrev pub not-a-cell : (b m a c r : ℕ) → Test
+not-a-cell b m a c r = record { number = 6; holds = leb (b ^ a) c || leb (b ^ (m - a)) r }
+
+-- 7: block past the last
+abbrev pub not-a-block : (b w m k : ℕ) → Test
+not-a-block b w m k = record { number = 7; holds = leb (b ^ (w - m)) k }
+
+abbrev pub query-tests : (level m a k c r : ℕ) → List Test
+query-tests level m a k c r =
+    unknown-level level ∷ above-level level m ∷ not-a-shape m a ∷ not-a-cell 2 m a c r ∷ not-a-block 2 index-bits m k ∷ []
+
+-- found, or 3 with the shape that was asked for and its j
 abbrev pub of-location : ℕ → ℕ → Location → Outcome ℕ
 of-location m a (found i) = accepted i
 of-location m a (no-net j) = not-net m a j
 
-abbrev pub query-tests : (level m a c r k : ℕ) → List Test
-query-tests level m a c r k =
-    unknown-level level
-    ∷ record { number = 4; holds = ltb level m }
-    ∷ record { number = 5; holds = ltb m a }
-    ∷ record { number = 6; holds = leb (2 ^ a) c || leb (2 ^ (m - a)) r }
-    ∷ record { number = 7; holds = leb (2 ^ (index-bits - m)) k }
-    ∷ []
-
--- column c and row r of the shape (m, a), in block k
-abbrev pub query-outcome : Plan → Shift → (level m a c r k : ℕ) → Outcome ℕ
-query-outcome P s level m a c r k =
-    first (query-tests level m a c r k) (of-location m a (locate (generators P) (finish s) m a k c r))
+-- 2, 4, 5, 6, 7, 3
+abbrev pub query-outcome : Plan → Shift → (level m a k c r : ℕ) → Outcome ℕ
+query-outcome P s level m a k c r = first (query-tests level m a k c r) (of-location m a (locate (generators P) (finish s) m a k c r))
 
 -- the code's answer
 abbrev pub of-located : Located → Outcome ℕ

@@ -31,8 +31,12 @@ pub record Swept (words indexes : List ℕ) (n v k word index : ℕ) (L : ℕ �
 abbrev pub Sweeps : List ℕ → List ℕ → ℕ → ℕ → ℕ → ℕ → ℕ → Type 0
 Sweeps words indexes n v k word index = (L : ℕ → ℕ) → Additive 2 L → Images L words indexes n → Swept words indexes n v k word index L
 
+-- words and indexes that answer every query of the shape (m, a)
+pub record Basis (G : Generators) (m a : ℕ) (words indexes : List ℕ) : Type 0 where
+  pub answers : Solved G m a (entries words indexes m)
+  pub images : Images (interval (plain G) m a) words indexes m
+
 -- what an elimination of the shape (m, a) hands back: `bad` is its j, or 0, and then there is a basis
 pub record Eliminates (G : Generators) (m a bad : ℕ) (words indexes : List ℕ) : Type 0 where
   pub least : bad ≢ 0 → Least (plain G) m a bad
-  pub solved : bad ≡ 0 → Solved G m a (entries words indexes m)
-  pub images : bad ≡ 0 → Images (interval (plain G) m a) words indexes m
+  pub basis : bad ≡ 0 → Basis G m a words indexes

@@ -1,3 +1,3 @@
 pub mod Answers
-pub mod Basis
 pub mod Theorem
+pub mod Basis

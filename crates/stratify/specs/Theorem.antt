@@ -35,7 +35,7 @@ pub record Related (P : Plan) (s : Shift) (m a k c r p : ℕ) : Type 0 where
   pub plain-visit : Only (VisitIn (plain (generators P)) m a 0
       (bitXor c (column (sequence P s) a (k * 2 ^ m))) (bitXor r (row (sequence P s) (m - a) (k * 2 ^ m)))) p
   pub block-visit : Only (VisitIn (sequence P s) m a k c r) (k * 2 ^ m + p)
-  pub answer : (level : ℕ) → Level level → m ≤ level → query-outcome P s level m a c r k ≡ accepted (k * 2 ^ m + p)
+  pub answer : (level : ℕ) → Level level → m ≤ level → query-outcome P s level m a k c r ≡ accepted (k * 2 ^ m + p)
 
 -- column c and row r of block k: exactly one visit, its relation to the plain run, and one visit in what point calls, a fill and the
 -- steps of a walk give for the block
@@ -56,11 +56,11 @@ Covered P M = (s : Shift) → ShiftFits s → (m a k c r : ℕ) → Cell M m a k
 
 -- it answers exactly where the determinant of its own shape is odd, and then with the only index of the block in the cell; else it
 -- refuses under 3 with that shape and its least j
-pub record Queried (P : Plan) (s : Shift) (level m a c r k : ℕ) : Type 0 where
-  pub answers-iff : ((i : ℕ) × (query-outcome P s level m a c r k ≡ accepted i)) ↔ (determinant (generators P) m a ≢ 0)
-  pub answer-iff : (i : ℕ) → (query-outcome P s level m a c r k ≡ accepted i)
+pub record Queried (P : Plan) (s : Shift) (level m a k c r : ℕ) : Type 0 where
+  pub answers-iff : ((i : ℕ) × (query-outcome P s level m a k c r ≡ accepted i)) ↔ (determinant (generators P) m a ≢ 0)
+  pub answer-iff : (i : ℕ) → (query-outcome P s level m a k c r ≡ accepted i)
       ↔ ((determinant (generators P) m a ≢ 0) × Only (VisitIn (sequence P s) m a k c r) i)
-  pub refusal-iff : (j : ℕ) → (query-outcome P s level m a c r k ≡ not-net m a j)
+  pub refusal-iff : (j : ℕ) → (query-outcome P s level m a k c r ≡ not-net m a j)
       ↔ ((determinant (generators P) m a ≡ 0) × Least (plain (generators P)) m a j)
 
 -- ---- 4: the check
@@ -116,10 +116,10 @@ pub record Theorems : Type 0 where
   -- of a plan whose columns are words (as the code's are)
   pub covered : {P : Plan} → Valid (generators P) → {M : ℕ} → M ≤ largest-level → Passes (generators P) M → Covered P M
   pub queried : {P : Plan} → Valid (generators P) → {s : Shift} → ShiftFits s
-      → {level m a c r k : ℕ} → Level level → Cell level m a k c r → Queried P s level m a c r k
+      → {level m a k c r : ℕ} → Level level → Cell level m a k c r → Queried P s level m a k c r
   -- (01: for m 0 the answer is the number of the block)
   pub size-zero : {P : Plan} → Valid (generators P) → {s : Shift} → ShiftFits s → {level : ℕ} → Level level
-      → {k : ℕ} → k < 2 ^ index-bits → query-outcome P s level 0 0 0 0 k ≡ accepted k
+      → {k : ℕ} → k < 2 ^ index-bits → query-outcome P s level 0 0 k 0 0 ≡ accepted k
   -- of 64 words
   pub checked : (words : List ℕ) → Below (2 ^ 32) words → length words ≡ 64 → {level : ℕ} → Level level → Checked words level
   pub accepted-covered : (words : List ℕ) → Below (2 ^ 32) words → (M : ℕ) → check-outcome words M ≡ accepted tt → Covered (loaded words) M

@@ -2,7 +2,7 @@
 ghost use mathlib.Core.Path.{_≡_};
 ghost use Prim.Native.Nat.{_+_, _-_, _*_, _/_, _^_, _≤_, _<_};
 
-// The t highest bits of a word; words of 64 bits let a shift by 32 stand.
+// The t highest bits of a word, shifted as 64 bits since t may be 0.
 pub fn top(word: u32, t: u32) -> u32
     requires { ⌜ t ≤ 32 ⌝ }
     ensures { λ r. ⌜ r ≡ word / 2 ^ (32 - t) ⌝ }

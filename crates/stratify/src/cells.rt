@@ -1,85 +1,90 @@
 // The query of a cell: the one index of a block that lies in it.
 ghost use mathlib.Core.Path.{_≡_};
-ghost use Prim.Native.Nat.{_-_, _/_, _^_, _≤_};
-ghost use Rattle.digits.specs.Digits.{plus, minus};
-ghost use Rattle.net.specs.Generators.{Valid, product};
-ghost use Rattle.net.specs.Finish.{shift, shifted};
+ghost use Prim.Native.Nat.{_≤_};
+ghost use Rattle.digits.specs.Digits.{minus};
+ghost use Rattle.linear.specs.Unique.{Only};
+ghost use Rattle.net.specs.Generators.{Valid};
+ghost use Rattle.net.specs.Sequence.{top, VisitIn};
 ghost use Rattle.net.specs.Query.{locate};
 ghost use Rattle.net.specs.Elimination.{plain-interval};
-ghost use Rattle.plan.specs.Pair.{pair};
-ghost use Rattle.stratify.specs.Answers.{Cell, of-located, of-location, query-outcome};
+ghost use Rattle.word.specs.Coordinate.{shifted-coordinate};
+ghost use Rattle.plan.specs.Pair.{generators, finish, sequence, largest-level};
+ghost use Rattle.stratify.specs.Answers.{Cell, ShiftFits, of-located, of-location, query-outcome};
+ghost use Rattle.stratify.specs.Basis.{Basis};
 use crate::bits::join;
 use crate::bits::top;
 use crate::elimination::eliminate;
 use crate::elimination::sweep;
+use plan::INDEX_BITS;
 use plan::Index;
 use plan::Plan;
 use plan::Shift;
 use refusal::Refusal;
+use word::Columns;
 
 // A block by its number: block k of size m holds the indexes k * 2^m to (k + 1) * 2^m - 1.
 pub type Block = u32;
 
-// What a query answers.
+// The index that is asked for, or why there is none.
 pub enum Located {
     Found(Index),
     Refused(Refusal),
 }
 
-// A column or row that is asked for, less that of an index, which has t digits.
-fn less(columns: [u32; 32], index: Index, shift: u32, t: u32, asked: u32) -> u32
+// A column or row of t bits, exclusive or that of an index.
+fn less(columns: Columns, index: Index, shift: u32, t: u32, asked: u32) -> u32
     requires { ⌜ t ≤ 32 ⌝ }
-    ensures { λ r. ⌜ r ≡ minus 2 asked (plus 2 (product 2 columns index) shift / 2 ^ (32 - t)) ⌝ }
+    ensures { λ r. ⌜ r ≡ minus 2 asked (top 2 32 t (shifted-coordinate columns shift index)) ⌝ }
 {
     asked ^ top(word::coordinate(columns, index, shift), t)
 }
 
 // The number of the plain cell that answers for a cell of a block.
-fn plain_cell(
-    x: [u32; 32],
-    y: [u32; 32],
-    s: u32,
-    t: u32,
-    m: u32,
-    a: u32,
-    column: u32,
-    row: u32,
-    block: Block,
-) -> u32
-    requires { ⌜ Valid (pair x y) × Cell 32 m a block column row ⌝ }
-    ensures { λ r. ⌜ r ≡ plain-interval (shifted (pair x y) s t) m a block column row ⌝ }
+fn plain_cell(plan: Plan, shift: Shift, m: u32, a: u32, column: u32, row: u32, block: Block) -> u32
+    requires { ⌜ Valid (generators plan) × ShiftFits shift × Cell largest-level m a block column row ⌝ }
+    ensures { λ r. ⌜ r ≡ plain-interval (sequence plan shift) m a block column row ⌝ }
 {
+    let x = plan.x;
+    let y = plan.y;
     let first = join(block, 0, m);
-    let c = less(x, first, s, a, column);
-    let r = less(y, first, t, m - a, row);
+    let c = less(x, first, shift.x, a, column);
+    let r = less(y, first, shift.y, m - a, row);
     join(c, r, m - a)
 }
 
-// The index of a block in a cell, where neither is refused.
-fn find(
-    x: [u32; 32],
-    y: [u32; 32],
-    s: u32,
-    t: u32,
+// The index of a block in a cell, by a basis of the shape.
+fn solved(
+    words: [u32; 32],
+    indexes: [u32; 32],
+    plan: Plan,
+    shift: Shift,
     m: u32,
     a: u32,
     column: u32,
     row: u32,
     block: Block,
-) -> Located
-    requires { ⌜ Valid (pair x y) × Cell 32 m a block column row ⌝ }
-    ensures { λ r. ⌜ of-located r ≡ of-location m a (locate (pair x y) (shift 2 s t) m a block column row) ⌝ }
+) -> Index
+    requires { ⌜ Valid (generators plan) × ShiftFits shift × Cell largest-level m a block column row × Basis (generators plan) m a words indexes ⌝ }
+    ensures { λ r. ⌜ Only (VisitIn (sequence plan shift) m a block column row) r ⌝ }
 {
-    let e = eliminate(x, y, m, a);
+    let cell = plain_cell(plan, shift, m, a, column, row, block);
+    let found = sweep(words, indexes, m as usize, cell, 0);
+    join(block, found.index, m)
+}
+
+// The index of a block in a cell, where neither is refused.
+fn find(plan: Plan, shift: Shift, m: u32, a: u32, column: u32, row: u32, block: Block) -> Located
+    requires { ⌜ Valid (generators plan) × ShiftFits shift × Cell largest-level m a block column row ⌝ }
+    ensures { λ r. ⌜ of-located r ≡ of-location m a (locate (generators plan) (finish shift) m a block column row) ⌝ }
+{
+    let e = eliminate(plan, m, a);
     let bad = e.bad;
     if bad != 0 {
         return Located::Refused(Refusal::NotNet { m, a, j: bad });
     }
-    let cell = plain_cell(x, y, s, t, m, a, column, row, block);
     let words = e.words;
     let indexes = e.indexes;
-    let found = sweep(words, indexes, m as usize, cell, 0);
-    Located::Found(join(block, found.index, m))
+    Located::Found(solved(words, indexes, plan, shift, m, a, column, row, block))
 }
 
 // The one index of a block in a cell of the shape (m, a). No earlier check of the matrices is needed.
@@ -93,7 +98,7 @@ pub fn query(
     row: u32,
     block: Block,
 ) -> Located
-    ensures { λ r. ⌜ of-located r ≡ query-outcome plan shift level m a column row block ⌝ }
+    ensures { λ r. ⌜ of-located r ≡ query-outcome plan shift level m a block column row ⌝ }
 {
     if Plan::unknown_level(level) {
         return Located::Refused(Refusal::Level);
@@ -110,10 +115,8 @@ pub fn query(
     if (row as u64) >> (m - a) != 0 {
         return Located::Refused(Refusal::Cell);
     }
-    if (block as u64) >> (32 - m) != 0 {
+    if (block as u64) >> (INDEX_BITS - m) != 0 {
         return Located::Refused(Refusal::Block);
     }
-    let x = plan.x;
-    let y = plan.y;
-    find(x, y, shift.x, shift.y, m, a, column, row, block)
+    find(plan, shift, m, a, column, row, block)
 }

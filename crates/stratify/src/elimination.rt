@@ -1,10 +1,11 @@
 // Elimination for a shape: the columns inserted one after the other into a basis, on arrays of its own.
 ghost use Prim.Native.Nat.{_≤_};
 ghost use Rattle.net.specs.Shape.{Shape};
-ghost use Rattle.plan.specs.Pair.{pair};
+ghost use Rattle.plan.specs.Pair.{generators};
 ghost use Rattle.stratify.specs.Basis.{Sweeps, Eliminates};
 use crate::bits::join;
 use crate::bits::top;
+use plan::Plan;
 
 // What is left of a word, and the index that belongs to it.
 pub struct Rest {
@@ -39,10 +40,12 @@ pub struct Elimination {
 }
 
 // The columns of the shape (m, a), one after the other.
-pub fn eliminate(x: [u32; 32], y: [u32; 32], m: u32, a: u32) -> Elimination
-    requires { ⌜ Shape (pair x y) m a ⌝ }
-    ensures { λ r. ⌜ Eliminates (pair x y) m a (r .bad) (r .words) (r .indexes) ⌝ }
+pub fn eliminate(plan: Plan, m: u32, a: u32) -> Elimination
+    requires { ⌜ Shape (generators plan) m a ⌝ }
+    ensures { λ r. ⌜ Eliminates (generators plan) m a (r .bad) (r .words) (r .indexes) ⌝ }
 {
+    let x = plan.x;
+    let y = plan.y;
     let n = m as usize;
     let mut words = [0u32; 32];
     let mut indexes = [0u32; 32];

@@ -4,7 +4,7 @@ ghost use Prim.Native.Nat.{_≤_};
 ghost use Rattle.net.specs.Generators.{Valid};
 ghost use Rattle.net.specs.Check.{check};
 ghost use Rattle.refusal.specs.Refusal.{of-judgement};
-ghost use Rattle.plan.specs.Pair.{pair};
+ghost use Rattle.plan.specs.Pair.{generators, largest-level};
 ghost use Rattle.stratify.specs.Answers.{of-verdict, check-outcome};
 use crate::elimination::eliminate;
 use plan::Plan;
@@ -12,14 +12,14 @@ use refusal::Judgement;
 use refusal::Refusal;
 
 // The first bad shape, m rising and then a rising.
-fn scan(x: [u32; 32], y: [u32; 32], level: u32) -> Judgement
-    requires { ⌜ Valid (pair x y) × (level ≤ 32) ⌝ }
-    ensures { λ r. ⌜ of-judgement r ≡ of-verdict (check (pair x y) level) ⌝ }
+fn scan(plan: Plan, level: u32) -> Judgement
+    requires { ⌜ Valid (generators plan) × (level ≤ largest-level) ⌝ }
+    ensures { λ r. ⌜ of-judgement r ≡ of-verdict (check (generators plan) level) ⌝ }
 {
     let mut m = 1u32;
     let mut a = 0u32;
     while m <= level {
-        let e = eliminate(x, y, m, a);
+        let e = eliminate(plan, m, a);
         let bad = e.bad;
         if bad != 0 {
             return Judgement::Refused(Refusal::NotNet { m, a, j: bad });
@@ -49,7 +49,5 @@ pub fn check(words: &[u32], level: u32) -> Judgement
     if Plan::unknown_level(level) {
         return Judgement::Refused(Refusal::Level);
     }
-    let x = loaded.plan.x;
-    let y = loaded.plan.y;
-    scan(x, y, level)
+    scan(loaded.plan, level)
 }

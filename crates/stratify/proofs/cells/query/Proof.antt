@@ -8,11 +8,10 @@ use borrow.Author.Needs.{needs}
 use lib.ListN.{getD, drop}
 use mir.Syntax.{w32}
 use mir.Val.{Fits}
-use Rattle.net.specs.Finish.{shift}
 use Rattle.net.specs.Query.{locate}
 use Rattle.refusal.specs.Outcome.{Outcome, Test, first}
 use Rattle.refusal.proofs.First.{first-none, first-refuses, first-passes}
-use Rattle.plan.specs.Pair.{generators}
+use Rattle.plan.specs.Pair.{generators, finish}
 use Rattle.plan.proofs.Laws.{words-valid}
 use Rattle.stratify.specs.Answers.{of-location, query-tests, query-outcome}
 use Rattle.plan.proofs.Level.{level-bounds}
@@ -21,19 +20,18 @@ use Rattle.stratify.proofs.cells.query.Statement.{statement}
 use Rattle.stratify.proofs.cells.query.Tie as tie
 
 abbrev tests : tie.Start → List Test
-tests s = query-tests (s .args .level) (s .args .m) (s .args .a) (s .args .column) (s .args .row) (s .args .block)
+tests s = let a = s .args in query-tests (a .level) (a .m) (a .a) (a .block) (a .column) (a .row)
 
 abbrev located : tie.Start → Outcome ℕ
 located s =
-    of-location (s .args .m) (s .args .a)
-    (locate (generators (s .args .plan)) (shift 2 (s .args .shift .x) (s .args .shift .y)) (s .args .m) (s .args .a) (s .args .block)
-    (s .args .column) (s .args .row))
+    let a = s .args in
+    of-location (a .m) (a .a) (locate (generators (a .plan)) (finish (a .shift)) (a .m) (a .a) (a .block) (a .column) (a .row))
 
 -- the first n tests do not hold
 abbrev Passed : ℕ → tie.Start → Type 0
 Passed n s =
-    query-outcome (s .args .plan) (s .args .shift) (s .args .level) (s .args .m) (s .args .a) (s .args .column) (s .args .row) (s .args .block)
-    ≡ first (drop n (tests s)) (located s)
+    let a = s .args in
+    query-outcome (a .plan) (a .shift) (a .level) (a .m) (a .a) (a .block) (a .column) (a .row) ≡ first (drop n (tests s)) (located s)
 
 -- past the first test the level is at most the largest
 level-within : (c : tie.Else3) → c .before .before .before .before .args .level ≤ 32
@@ -106,24 +104,27 @@ returns-6 c =
 
 find-requires : tie.Need-find-requires
 find-requires c κs =
-    let d = c .before .before in
-    let s = d .before .before .before .before .before .before .before in
-    let known = level-within (d .before .before .before) in (
+    let s = c .before .before .before .before .before .before .before in
+    let known = level-within (c .before .before .before) in (
       words-valid (s .args .plan .x) (s .args .plan .y)
           (λ t. let f : Fits w32 (getD (s .args .plan .x) t 0) = search needs in f .fits)
           (λ t. let f : Fits w32 (getD (s .args .plan .y) t 0) = search needs in f .fits),
       record {
+        x = let f : Fits w32 (s .args .shift .x) = search needs in f .fits;
+        y = let f : Fits w32 (s .args .shift .y) = search needs in f .fits;
+      },
+      record {
         size = omega arith;
         wide = omega arith;
-        column = below-limit _ _ (d .before .before .if4 .left);
-        row = below-limit _ _ (d .before .if5 .left);
-        block = below-limit _ _ (d .if6 .left);
+        column = below-limit _ _ (c .before .before .if4 .left);
+        row = below-limit _ _ (c .before .if5 .left);
+        block = below-limit _ _ (c .if6 .left);
       },
     )
 
 returns-7 : tie.Need-returns-7
 returns-7 c =
-    let d = c .before .before .before in
+    let d = c .before in
     let s = d .before .before .before .before .before .before .before in
     c .find .ensures
     ∙ sym (cell-passed (d .before) ∙ first-passes (located s) 7 [] (lt-leb _ _ (below-limit _ _ (d .if6 .left))) ∙ first-none (located s))

@@ -7,7 +7,7 @@ use Rattle.net.specs.Finish.{plain}
 use Rattle.net.specs.Elimination.{interval}
 use Rattle.net.proofs.Interval.{interval-additive, interval-lt}
 use Rattle.word.proofs.Turn.{one-shifted}
-use Rattle.plan.specs.Pair.{pair}
+use Rattle.plan.specs.Pair.{pair, generators}
 use Rattle.stratify.specs.Basis.{Sweeps}
 use Rattle.stratify.proofs.Refinement.{Going, going-none, going-kernel, going-more, interval-at, eliminates-kernel, eliminates-basis}
 use Rattle.stratify.proofs.elimination.eliminate.Statement.{statement}
@@ -21,18 +21,18 @@ abbrev μ-loop : tie.MeasureT-loop
 
 -- the interval of an index in the plain sequence
 abbrev L : tie.Start Inv-loop μ-loop → ℕ → ℕ
-L s = interval (plain (pair (s .args .t1) (s .args .t2))) (s .args .m) (s .args .a)
+L s = interval (plain (generators (s .args .plan))) (s .args .m) (s .args .a)
 
 -- the code's cell of a column is the interval of the column's index
-cell : (c : tie.After-top2 Inv-loop μ-loop) → let s = c .before .before .before .before in
+cell : (c : tie.After-top2 Inv-loop μ-loop) → let s = c .before .before .before .before .before .before in
     c .before .top .result * 2 ^ (s .args .m - s .args .a) + c .top2 .result ≡ L s (2 ^ c .before .before .before .loop .c)
 cell c =
-    let s = c .before .before .before .before in
+    let s = c .before .before .before .before .before .before in
     ap₂ (λ (u v : ℕ). u * 2 ^ (s .args .m - s .args .a) + v) (c .before .top .ensures) (c .top2 .ensures)
     ∙ sym (interval-at (s .pre) (c .before .before .before .loop .c))
 
 swept : (c : tie.After-sweep Inv-loop μ-loop) → let l = c .before .before .before .before .before in
-    Sweeps (l .loop .words) (l .loop .indexes) (l .loop .c) (L (l .before) (2 ^ l .loop .c)) (2 ^ l .loop .c)
+    Sweeps (l .loop .words) (l .loop .indexes) (l .loop .c) (L (l .before .before .before) (2 ^ l .loop .c)) (2 ^ l .loop .c)
     (c .sweep .result .word) (c .sweep .result .index)
 swept c =
     let l = c .before .before .before .before .before .loop in
@@ -71,7 +71,7 @@ sub-join c = omega arith
 
 join-requires : tie.Need-join-requires Inv-loop μ-loop
 join-requires c κs =
-    let s = c .before .before .before .before in
+    let s = c .before .before .before .before .before .before in
     let small = interval-lt (s .pre) (2 ^ c .before .before .before .loop .c) in
     let wide : 2 ^ s .args .m ≤ 2 ^ 32 = pow-mono (s .pre .fits) in
     let e = cell c in
@@ -88,7 +88,7 @@ sweep-requires c κs = omega arith
 
 returns : tie.Need-returns Inv-loop μ-loop
 returns c =
-    let s = c .before .before .before .before .before .before .before in
+    let s = c .before .before .before .before .before .before .before .before .before in
     let l = c .before .before .before .before .before .before .loop in
     let r = c .before .sweep .result in
     eliminates-kernel (s .pre) (l .words) (l .indexes) (r .index)
@@ -114,14 +114,14 @@ loop-less c = omega arith
 
 loop-again : tie.Need-loop-again Inv-loop μ-loop
 loop-again c =
-    let s = c .before .before .before .before .before .before .before in
+    let s = c .before .before .before .before .before .before .before .before .before in
     let l = c .before .before .before .before .before .before .loop in
     let r = c .before .sweep .result in
     let more = going-more (interval-additive (s .pre)) (l .inv .1) (omega arith) (r .word) (r .index) (swept (c .before)) in
     (omega arith, more (c .if1 .left) (omega arith))
 
 returns-2 : tie.Need-returns-2 Inv-loop μ-loop
-returns-2 c = let l = c .before .loop in eliminates-basis (c .before .before .pre) (l .words) (l .indexes) (l .c) (omega arith) (l .inv .1)
+returns-2 c = let l = c .before .loop in eliminates-basis (c .before .before .before .before .pre) (l .words) (l .indexes) (l .c) (omega arith) (l .inv .1)
 
 pub eliminate-spec : {M : Type 1} → statement M
 eliminate-spec =

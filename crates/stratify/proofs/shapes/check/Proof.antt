@@ -58,17 +58,16 @@ returns-2 c =
 
 scan-requires : tie.Need-scan-requires
 scan-requires c κs =
-    let d = c .before .before in
-    let P = d .before .before .before .before .load .result .plan in (
+    let P = c .before .before .before .before .load .result .plan in (
       words-valid (P .x) (P .y)
           (λ t. let f : Fits w32 (getD (P .x) t 0) = search needs in f .fits)
           (λ t. let f : Fits w32 (getD (P .y) t 0) = search needs in f .fits),
-      level-bounds _ (sym (d .before .unknown-level .ensures) ∙ d .if1 .left) .1,
+      level-bounds _ (sym (c .before .unknown-level .ensures) ∙ c .if1 .left) .1,
     )
 
 returns-3 : tie.Need-returns-3
 returns-3 c =
-    let d = c .before .before .before in
+    let d = c .before in
     let told = d .before .before in
     let s = told .before .before .before .before in
     c .scan .ensures

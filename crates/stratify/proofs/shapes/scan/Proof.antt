@@ -5,16 +5,16 @@ use native.Mathlib.Omega.{arith}
 use Rattle.linear.proofs.Prime.{two}
 use Rattle.net.specs.Check.{Cleared}
 use Rattle.net.proofs.Check.{scan-none, scan-next, scan-row, scan-all, scan-stops}
-use Rattle.plan.specs.Pair.{pair}
+use Rattle.plan.specs.Pair.{generators}
 use Rattle.stratify.specs.Answers.{of-verdict}
 use Rattle.stratify.proofs.shapes.scan.Statement.{statement}
 use Rattle.stratify.proofs.shapes.scan.Tie as tie
 
 abbrev Inv-loop : tie.InvT-loop
-Inv-loop x y level m₀ a₀ m a = (0 < m) × (a ≤ m) × (m ≤ level + 1) × Cleared (pair x y) m a
+Inv-loop plan level m₀ a₀ m a = (0 < m) × (a ≤ m) × (m ≤ level + 1) × Cleared (generators plan) m a
 
 abbrev μ-loop : tie.MeasureT-loop
-μ-loop x y level m₀ a₀ m a = (33 - m) * 34 + (m - a)
+μ-loop plan level m₀ a₀ m a = (33 - m) * 34 + (m - a)
 
 loop-holds : tie.Need-loop-holds Inv-loop μ-loop
 loop-holds c = (omega arith, omega arith, omega arith, scan-none _)
@@ -42,7 +42,7 @@ loop-again c =
     let l = c .before .before .before .before .loop in
     let e = c .before .before .eliminate in
     let good : e .result .bad ≡ 0 = omega arith in
-    (omega arith, omega arith, omega arith, scan-next _ (l .m) (l .a) (l .inv .3) (e .ensures .solved good .nonzero))
+    (omega arith, omega arith, omega arith, scan-next _ (l .m) (l .a) (l .inv .3) (e .ensures .basis good .answers .nonzero))
 
 add-m : tie.Need-add-m Inv-loop μ-loop
 add-m c = omega arith
@@ -55,7 +55,7 @@ loop-again-2 c =
     let l = c .before .before .before .before .loop in
     let e = c .before .before .eliminate in
     let good : e .result .bad ≡ 0 = omega arith in
-    (omega arith, omega arith, omega arith, scan-row _ (l .m) (l .a) (omega arith) (l .inv .3) (e .ensures .solved good .nonzero))
+    (omega arith, omega arith, omega arith, scan-row _ (l .m) (l .a) (omega arith) (l .inv .3) (e .ensures .basis good .answers .nonzero))
 
 returns-2 : tie.Need-returns-2 Inv-loop μ-loop
 returns-2 c =
