@@ -3,6 +3,7 @@ use mathlib.Core.Path.{_≡_, refl, sym, ap, _∙_}
 use mathlib.Core.Bool.{false, not}
 use mathlib.Core.List.{List, [], _∷_, _++_, map, append-nil}
 use Prim.Native.Nat.{ℕ, zero, suc, _+_, _-_, _^_, _≤_, min}
+use native.Mathlib.Omega.{arith}
 use borrow.Author.Tests.{ltb-false, not-false, eqb-true}
 use lib.Dec.{eqb, ltb}
 use lib.ListN.{length, replicate}
@@ -10,7 +11,7 @@ use Rattle.net.specs.Sequence.{Sequence}
 use Rattle.net.specs.Run.{Visit, range, visit, visits}
 use Rattle.net.specs.Walk.{Walk, Answer, visited, ended, answers, given}
 use Rattle.net.specs.Steps.{Walked}
-use Rattle.net.proofs.Walk.{walked}
+use Rattle.net.proofs.Walk.{walked, walked-by-hand}
 use Rattle.refusal.specs.Outcome.{Outcome, accepted, refused, first}
 use Rattle.refusal.proofs.First.{first-none, first-accepted}
 use Rattle.plan.specs.Fill.{fill-outcome, filled}
@@ -71,10 +72,16 @@ told-given S n start count =
     ∙ ap (λ (t : List Visit). visits S start (min n count) ++ t) (told-ended (n - count))
     ∙ append-nil (visits S start (min n count))
 
-module _ (S : Sequence) (start count : ℕ) (w : Walk) (accepts : open-outcome start count ≡ accepted w) (from : start ≤ last-index) (n : ℕ) where
-  pub steps : Walked (visit S) last-index start count n
-  steps = walked (visit S) last-index start count n from (within start count w accepts)
+module _ (S : Sequence) (start count : ℕ) (w : Walk) (accepts : open-outcome start count ≡ accepted w) (n : ℕ) where
+  pub steps : answers (visit S) last-index n w ≡ given (visit S) n start count
+  steps =
+      let room = within start count w accepts in
+      let all : min count (suc last-index - start) ≡ count = omega arith in
+      ap (answers (visit S) last-index n) (opened start count w accepts)
+      ∙ walked-by-hand (visit S) last-index (record { next = start; left = count }) n .list ∙ ap (given (visit S) n start) all
 
   pub walk-visits : told (answers (visit S) last-index n w) ≡ visits S start (min n count)
-  walk-visits =
-      ap (λ (v : Walk). told (answers (visit S) last-index n v)) (opened start count w accepts) ∙ ap told (steps .list) ∙ told-given S n start count
+  walk-visits = ap told steps ∙ told-given S n start count
+
+  pub last-walk : start ≤ last-index → Walked (visit S) last-index start count n
+  last-walk from = walked (visit S) last-index start count n from (within start count w accepts)

@@ -1,6 +1,6 @@
 -- Past their tests the check is net's check and the query net's query; what their outcomes tell of those. Assumes nothing.
 use mathlib.Core.Path.{_≡_, refl, sym, ap, _∙_}
-use mathlib.Core.Logic.{_↔_}
+use mathlib.Core.Logic.{_≢_, _↔_}
 use mathlib.Core.Bool.{not}
 use mathlib.Core.List.{List, []}
 use Prim.Native.Nat.{ℕ, _-_, _^_}
@@ -63,6 +63,14 @@ module _ {o : Outcome Unit} {v : Verdict} (is : o ≡ of-verdict v) where
 
   pub verdict-not-net : (m a j : ℕ) → (o ≡ not-net m a j) ↔ (v ≡ refused m a j)
   verdict-not-net m a j = (λ e. not-net-refused v m a j (sym is ∙ e), λ e. is ∙ ap of-verdict e)
+
+  -- 3 with some shape and j, where the verdict is not passed
+  pub verdict-refuses : ((m : ℕ) × (a : ℕ) × (j : ℕ) × (o ≡ not-net m a j)) ↔ (v ≢ passed)
+  verdict-refuses = (λ (m, a, j, e) p. absurd (accepted-refused (sym (is ∙ ap of-verdict p) ∙ e)), λ ne. named v refl ne)
+    where
+      named : (u : Verdict) → v ≡ u → v ≢ passed → (m : ℕ) × (a : ℕ) × (j : ℕ) × (o ≡ not-net m a j)
+      named passed e ne = absurd (ne e)
+      named (refused m a j) e ne = (m, a, j, is ∙ ap of-verdict e)
 
 module _ {o : Outcome ℕ} (m a : ℕ) {l : Location} (is : o ≡ of-location m a l) where
   pub location-accepted : (i : ℕ) → (o ≡ accepted i) ↔ (l ≡ found i)

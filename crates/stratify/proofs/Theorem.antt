@@ -8,7 +8,6 @@ use borrow.Author.Tests.{not-false, eqb-true}
 use lib.Bits.{bitXor}
 use lib.Dec.{eqb}
 use lib.ListN.{length, take, drop}
-use lib.Pow.{pow-pos}
 use Rattle.digits.specs.Digits.{minus}
 use Rattle.digits.proofs.Two.{one-lt-two, minus-two}
 use Rattle.linear.specs.Unique.{Only, One}
@@ -24,9 +23,8 @@ use Rattle.net.specs.Answers.{Located, Checked as NetChecked}
 use Rattle.net.specs.Run.{Visit, visits, run, hits}
 use Rattle.net.specs.Standard.{standard}
 use Rattle.net.proofs.Below.{below-take, below-drop}
-use Rattle.net.proofs.Interval.{block-lt}
 use Rattle.net.proofs.Finish.{shift-lawful}
-use Rattle.net.proofs.Check.{nonzero}
+use Rattle.net.proofs.Check.{nonzero, least-index-least}
 use Rattle.net.proofs.Query.{locate-found}
 use Rattle.net.proofs.Run.{take-each}
 use Rattle.net.proofs.Theorem as net
@@ -37,11 +35,12 @@ use Rattle.plan.specs.declared.pair.Shift.{Shift}
 use Rattle.plan.specs.Pair.{generators, sequence, largest-level, unknown-level, loaded}
 use Rattle.plan.specs.Range.{last-index}
 use Rattle.plan.proofs.Loading.{loaded-accepted}
-use Rattle.plan.proofs.Lists.{filled-visits, opened, steps, walk-visits}
+use Rattle.plan.proofs.Lists.{filled-visits, opened, steps, walk-visits, last-walk}
 use Rattle.stratify.specs.Answers.{of-verdict, of-location, check-outcome, query-outcome, ShiftFits, Level, Cell}
 use Rattle.stratify.specs.Theorem.{Related, VisitedOnce, Covered, Queried, Checked, Lists, GivesRun, StandardPair, Theorems}
 use Rattle.plan.proofs.Level.{level-bounds}
-use Rattle.stratify.proofs.Outcomes.{query-outcome-is, check-outcome-is, verdict-accepted, verdict-not-net, location-accepted, location-not-net}
+use Rattle.stratify.proofs.Outcomes.{query-outcome-is, check-outcome-is, verdict-accepted, verdict-not-net, verdict-refuses}
+use Rattle.stratify.proofs.Outcomes.{location-accepted, location-not-net}
 
 lawful : (s : Shift) → ShiftFits s → Lawful 2 32 (shift 2 (s .x) (s .y))
 lawful s words = record { x = shift-lawful one-lt-two 32 (s .x) (words .x); y = shift-lawful one-lt-two 32 (s .y) (words .y) }
@@ -94,19 +93,13 @@ module _ {P : Plan} (valid : Valid (generators P)) {M : ℕ} (fits : M ≤ large
         ap (λ (v : List Visit). hits S m a c r (take (2 ^ m) v)) e
         ∙ ap (hits S m a c r) (take-each _ (k * 2 ^ m) n (2 ^ m) ∙ ap (visits S (k * 2 ^ m)) whole) ∙ one-hit
 
-    first-index : k * 2 ^ m ≤ last-index
-    first-index =
-        let size = cell .size in
-        let h = block-lt one-lt-two 32 m k 0 (omega arith) (cell .block) (pow-pos m) in
-        omega arith
-
     visited-once : VisitedOnce P s m a k c r
     visited-once = record {
       one-visit = one-visit;
       relation = relation;
       points = one-hit;
       fills = λ xs ys e. hit-in _ (length xs) (filled-visits S (k * 2 ^ m) xs ys e);
-      walks = λ count n w e long many. hit-in _ (min n count) (walk-visits S (k * 2 ^ m) count w e first-index n) (omega arith);
+      walks = λ count n w e long many. hit-in _ (min n count) (walk-visits S (k * 2 ^ m) count w e n) (omega arith);
     }
 
   covered : Covered P M
@@ -134,6 +127,12 @@ module _ {P : Plan} (valid : Valid (generators P)) {s : Shift} (words : ShiftFit
           (_, location-accepted m a is _ .1 (L .found-iff _ .1 (odd, only))),
     );
     answer-iff = λ i. (λ e. L .found-iff i .0 (location-accepted m a is i .0 e), λ h. location-accepted m a is i .1 (L .found-iff i .1 h));
+    refuses-iff = (
+      λ (j, e). L .no-net-iff j .0 (location-not-net m a is j .0 e) .0,
+      λ even.
+          let least = least-index-least shape two even in
+          (_, location-not-net m a is _ .1 (L .no-net-iff _ .1 (even, least))),
+    );
     refusal-iff = λ j. (λ e. L .no-net-iff j .0 (location-not-net m a is j .0 e), λ h. location-not-net m a is j .1 (L .no-net-iff j .1 h));
   }
 
@@ -154,8 +153,8 @@ valid-loaded words below long =
 checked : (words : List ℕ) → Below (2 ^ 32) words → length words ≡ 64 → {level : ℕ} → Level level → Checked words level
 checked words below long {level} known = record {
   accepted-iff = (λ e. C .passed-iff .0 (verdict-accepted is .0 e), λ p. verdict-accepted is .1 (C .passed-iff .1 p));
-  even-iff = (λ ne. C .zero-iff .0 (λ e. ne (verdict-accepted is .1 e)), λ h e. C .zero-iff .1 h (verdict-accepted is .0 e));
-  crowded-iff = (λ ne. C .crowded-iff .0 (λ e. ne (verdict-accepted is .1 e)), λ h e. C .crowded-iff .1 h (verdict-accepted is .0 e));
+  even-iff = (λ r. C .zero-iff .0 (verdict-refuses is .0 r), λ h. verdict-refuses is .1 (C .zero-iff .1 h));
+  crowded-iff = (λ r. C .crowded-iff .0 (verdict-refuses is .0 r), λ h. verdict-refuses is .1 (C .crowded-iff .1 h));
   refusal-iff = λ m a j.
       (λ e. C .refused-iff m a j .0 (verdict-not-net is m a j .0 e), λ h. verdict-not-net is m a j .1 (C .refused-iff m a j .1 h));
   refusal-even-iff = λ m a j.
@@ -177,6 +176,7 @@ lists P s = record {
   opened = opened;
   steps = steps (sequence P s);
   walks = walk-visits (sequence P s);
+  last-walk = λ start count w e from n. last-walk (sequence P s) start count w e n from;
   by-hand = net.theorems .walked-by-hand _ last-index;
 }
 
@@ -184,8 +184,7 @@ gives-run : (P : Plan) (s : Shift) (m k : ℕ) → GivesRun P s m k
 gives-run P s m k = record {
   points = refl;
   fills = λ p xs ys e. ap (take (2 ^ m - p)) (filled-visits S (k * 2 ^ m + p) xs ys e) ∙ part p (length xs);
-  walks = λ count n w e from.
-      ap (take (2 ^ m)) (walk-visits S (k * 2 ^ m) count w e from n) ∙ from-first (min n count);
+  walks = λ count n w e. ap (take (2 ^ m)) (walk-visits S (k * 2 ^ m) count w e n) ∙ from-first (min n count);
 }
   where
     S : Sequence
@@ -231,6 +230,7 @@ theorems = record {
   size-zero = size-zero;
   checked = checked;
   accepted-covered = accepted-covered;
+  unshifted = λ P. net.theorems .unshifted (generators P) one-lt-two;
   lists = lists;
   gives-run = gives-run;
   standard = standard-pair-theorem;

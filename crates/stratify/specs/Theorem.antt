@@ -15,7 +15,7 @@ use Rattle.net.specs.Shape.{determinant, Passes}
 use Rattle.net.specs.Check.{First, FirstZero}
 use Rattle.net.specs.Run.{visit, visits, run, hits}
 use Rattle.net.specs.Standard.{binomial}
-use Rattle.net.specs.Walk.{Walk}
+use Rattle.net.specs.Walk.{Walk, answers, given}
 use Rattle.net.specs.Steps.{Walked, WalkedByHand}
 use Rattle.refusal.specs.Outcome.{accepted, not-net}
 use Rattle.plan.specs.declared.pair.Plan.{Plan}
@@ -60,18 +60,19 @@ pub record Queried (P : Plan) (s : Shift) (level m a k c r : ℕ) : Type 0 where
   pub answers-iff : ((i : ℕ) × (query-outcome P s level m a k c r ≡ accepted i)) ↔ (determinant (generators P) m a ≢ 0)
   pub answer-iff : (i : ℕ) → (query-outcome P s level m a k c r ≡ accepted i)
       ↔ ((determinant (generators P) m a ≢ 0) × Only (VisitIn (sequence P s) m a k c r) i)
+  pub refuses-iff : ((j : ℕ) × (query-outcome P s level m a k c r ≡ not-net m a j)) ↔ (determinant (generators P) m a ≡ 0)
   pub refusal-iff : (j : ℕ) → (query-outcome P s level m a k c r ≡ not-net m a j)
       ↔ ((determinant (generators P) m a ≡ 0) × Least (plain (generators P)) m a j)
 
 -- ---- 4: the check
 
--- It accepts exactly what passes. It refuses exactly where a determinant of a size within the level is even, exactly where a cell of
+-- It accepts exactly what passes. It refuses under 3 exactly where a determinant of a size within the level is even, exactly where a cell of
 -- such a size holds two visits of the plain run. The shape that it names is the first in both readings, and j is the least.
 pub record Checked (words : List ℕ) (level : ℕ) : Type 0 where
   pub accepted-iff : (check-outcome words level ≡ accepted tt) ↔ Passes (generators (loaded words)) level
-  pub even-iff : (check-outcome words level ≢ accepted tt)
+  pub even-iff : ((m : ℕ) × (a : ℕ) × (j : ℕ) × (check-outcome words level ≡ not-net m a j))
       ↔ ((m : ℕ) × (a : ℕ) × (0 < m) × (m ≤ level) × (a ≤ m) × (determinant (generators (loaded words)) m a ≡ 0))
-  pub crowded-iff : (check-outcome words level ≢ accepted tt)
+  pub crowded-iff : ((m : ℕ) × (a : ℕ) × (j : ℕ) × (check-outcome words level ≡ not-net m a j))
       ↔ ((m : ℕ) × (a : ℕ) × (m ≤ level) × (a ≤ m) × Crowded (plain (generators (loaded words))) m a)
   pub refusal-iff : (m a j : ℕ) → (check-outcome words level ≡ not-net m a j)
       ↔ (First (generators (loaded words)) level m a × Least (plain (generators (loaded words))) m a j)
@@ -80,17 +81,19 @@ pub record Checked (words : List ℕ) (level : ℕ) : Type 0 where
 
 -- ---- 5: points, fills and walks give the run
 
--- Each gives the visits of consecutive indexes. For a walk it is ONE claim about the list of n steps, steps after the end included, and
--- what the last walk holds (`Walked`); also for walks made by hand.
+-- Each gives the visits of consecutive indexes. Of point calls that is their contract, index by index. For a walk it is ONE claim about
+-- the list of n steps, steps after the end included; and what the last walk holds (`Walked`). Also for walks made by hand.
 pub record Lists (P : Plan) (s : Shift) : Type 0 where
   pub points : (start n : ℕ) → pointed (sequence P s) start n ≡ visits (sequence P s) start n
   pub fills : (start : ℕ) (xs ys : List ℕ) → fill-outcome start xs ys ≡ accepted tt
       → held start (filled (sequence P s) start xs ys) ≡ visits (sequence P s) start (length xs)
   pub opened : (start count : ℕ) (w : Walk) → open-outcome start count ≡ accepted w → w ≡ record { next = start; left = count }
-  pub steps : (start count : ℕ) (w : Walk) → open-outcome start count ≡ accepted w → start ≤ last-index
-      → (n : ℕ) → Walked (visit (sequence P s)) last-index start count n
-  pub walks : (start count : ℕ) (w : Walk) → open-outcome start count ≡ accepted w → start ≤ last-index
+  pub steps : (start count : ℕ) (w : Walk) → open-outcome start count ≡ accepted w
+      → (n : ℕ) → answers (visit (sequence P s)) last-index n w ≡ given (visit (sequence P s)) n start count
+  pub walks : (start count : ℕ) (w : Walk) → open-outcome start count ≡ accepted w
       → (n : ℕ) → walked (sequence P s) n w ≡ visits (sequence P s) start (min n count)
+  pub last-walk : (start count : ℕ) (w : Walk) → open-outcome start count ≡ accepted w → start ≤ last-index
+      → (n : ℕ) → Walked (visit (sequence P s)) last-index start count n
   pub by-hand : (w : Walk) (n : ℕ) → WalkedByHand (visit (sequence P s)) last-index w n
 
 -- So, in block k: point calls give the run; a fill from its index p on writes the run from there, as far as it goes into the block; and
@@ -99,7 +102,7 @@ pub record GivesRun (P : Plan) (s : Shift) (m k : ℕ) : Type 0 where
   pub points : pointed (sequence P s) (k * 2 ^ m) (2 ^ m) ≡ run (sequence P s) m k
   pub fills : (p : ℕ) (xs ys : List ℕ) → fill-outcome (k * 2 ^ m + p) xs ys ≡ accepted tt
       → take (2 ^ m - p) (held (k * 2 ^ m + p) (filled (sequence P s) (k * 2 ^ m + p) xs ys)) ≡ take (length xs) (drop p (run (sequence P s) m k))
-  pub walks : (count n : ℕ) (w : Walk) → open-outcome (k * 2 ^ m) count ≡ accepted w → k * 2 ^ m ≤ last-index
+  pub walks : (count n : ℕ) (w : Walk) → open-outcome (k * 2 ^ m) count ≡ accepted w
       → take (2 ^ m) (walked (sequence P s) n w) ≡ take (min n count) (run (sequence P s) m k)
 
 -- ---- the standard pair
@@ -123,7 +126,8 @@ pub record Theorems : Type 0 where
   -- of 64 words
   pub checked : (words : List ℕ) → Below (2 ^ 32) words → length words ≡ 64 → {level : ℕ} → Level level → Checked words level
   pub accepted-covered : (words : List ℕ) → Below (2 ^ 32) words → (M : ℕ) → check-outcome words M ≡ accepted tt → Covered (loaded words) M
-  -- of any plan and shift
+  -- of any plan and shift; 01's plain run, both scramble words 0, is the run of `plain`
+  pub unshifted : (P : Plan) → sequence P (record { x = 0; y = 0 }) ≡ plain (generators P)
   pub lists : (P : Plan) (s : Shift) → Lists P s
   pub gives-run : (P : Plan) (s : Shift) (m k : ℕ) → GivesRun P s m k
   pub standard : StandardPair

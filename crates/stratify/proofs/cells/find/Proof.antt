@@ -39,7 +39,8 @@ returns-2 c =
     let a = d .before .before .args in
     let odd = d .before .eliminate .ensures .basis (no-kernel d) .answers .nonzero in
     sym (ap (of-location (a .m) (a .a))
-    (locate-found (generators (a .plan)) (finish (a .shift)) (a .m) (a .a) (a .block) (a .column) (a .row) (c .solved .result) odd (c .solved .ensures)))
+    (locate-found (generators (a .plan)) (finish (a .shift)) (a .m) (a .a) (a .block) (a .column) (a .row)
+    (c .solved .result) odd (c .solved .ensures)))
 
 pub find-spec : {M : Type 1} → statement M
 find-spec = tie.close (tie.spec eliminate-requires returns solved-requires returns-2)

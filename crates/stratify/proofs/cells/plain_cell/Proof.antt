@@ -58,9 +58,8 @@ join-requires-2 : tie.Need-join-requires-2
 join-requires-2 c κs =
     let s = c .before .before .before .before .before in
     let a = s .args in
-    let small =
-    cell-lt (shape s) (a .shift .x) (a .shift .y) (s .pre .1 .x) (s .pre .1 .y) (a .block) (a .column) (a .row) (s .pre .2 .column) (s .pre .2 .row) in
-    (omega arith, rw (cell c) small)
+    let small = cell-lt (shape s) (a .shift .x) (a .shift .y) (s .pre .1 .x) (s .pre .1 .y) (a .block) (a .column) (a .row) in
+    (omega arith, rw (cell c) (small (s .pre .2 .column) (s .pre .2 .row)))
 
 returns : tie.Need-returns
 returns c = c .join2 .ensures ∙ cell (c .before)

@@ -1,8 +1,7 @@
 -- `stratify::cells::solved` meets its contract: the swept index is the basis's answer for the plain cell. Assumes nothing.
-use mathlib.Core.Path.{_≡_, sym, subst}
+use mathlib.Core.Path.{sym, subst}
 use Prim.Native.Nat.{ℕ, _+_, _*_, _^_}
 use native.Mathlib.Omega.{arith}
-use borrow.Author.Needs.{needs}
 use Rattle.digits.proofs.Two.{one-lt-two}
 use Rattle.linear.specs.Unique.{Only}
 use Rattle.net.specs.Sequence.{VisitIn}
@@ -23,8 +22,9 @@ only c =
     let a = s .args in
     let q = s .pre .2 in
     let shape : Shape (generators (a .plan)) (a .m) (a .a) = record { valid = s .pre .0; wide = q .wide; fits = q .size } in
-    answer shape (a .shift .x) (a .shift .y) (s .pre .1 .x) (s .pre .1 .y) (a .block) (a .column) (a .row) (q .column) (q .row) (a .words) (a .indexes)
-    (c .before .plain-cell .result) (c .sweep .result .word) (c .sweep .result .index) (s .pre .3) (c .before .plain-cell .ensures) (c .sweep .ensures)
+    let cell = c .before .plain-cell in
+    answer shape (a .shift .x) (a .shift .y) (s .pre .1 .x) (s .pre .1 .y) (a .block) (a .column) (a .row) (q .column) (q .row)
+    (a .words) (a .indexes) (cell .result) (c .sweep .result .word) (c .sweep .result .index) (s .pre .3) (cell .ensures) (c .sweep .ensures)
 
 plain-cell-requires : tie.Need-plain-cell-requires
 plain-cell-requires c κs = (c .pre .0, c .pre .1, c .pre .2)

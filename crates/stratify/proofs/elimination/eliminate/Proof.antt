@@ -121,7 +121,9 @@ loop-again c =
     (omega arith, more (c .if1 .left) (omega arith))
 
 returns-2 : tie.Need-returns-2 Inv-loop μ-loop
-returns-2 c = let l = c .before .loop in eliminates-basis (c .before .before .before .before .pre) (l .words) (l .indexes) (l .c) (omega arith) (l .inv .1)
+returns-2 c =
+    let l = c .before .loop in
+    eliminates-basis (c .before .before .before .before .pre) (l .words) (l .indexes) (l .c) (omega arith) (l .inv .1)
 
 pub eliminate-spec : {M : Type 1} → statement M
 eliminate-spec =
