@@ -26,6 +26,7 @@ fn main() {
     small_queries();
     lines(Section::Largest, 33);
     single::queries();
+    single::queries_in_order();
     print::text(b"fill\n");
     single::fills();
     print::text(b"walk\n");

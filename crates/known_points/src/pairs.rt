@@ -227,6 +227,10 @@ pub fn twice() -> Plan {
     plan_of(twice_words())
 }
 
+pub fn zero() -> Plan {
+    plan_of([0; 64])
+}
+
 fn plan_of(words: [u32; 64]) -> Plan {
     let loaded = Plan::load(&words);
     loaded.plan

@@ -28,7 +28,7 @@ pub fn refusal_line(why: Refusal) {
     text(b"refused ");
     match why {
         Refusal::NotNet { m, a, j } => {
-            text(b"3 ");
+            number(why.number());
             number(m);
             number(a);
             last_number(j);

@@ -67,6 +67,18 @@ pub fn queries() {
     query_line(Plan::standard(), shift, 32, 4, 1, 0, 0, 268435455);
 }
 
+// The zero pair, with every later refusal due too: 2, 4, 5, 6, 7, 3.
+pub fn queries_in_order() {
+    let shift = pairs::no_shift();
+    let most = 4294967295;
+    query_line(pairs::zero(), shift, 33, most, most, most, most, most);
+    query_line(pairs::zero(), shift, 2, most, most, most, most, most);
+    query_line(pairs::zero(), shift, 2, 2, most, most, most, most);
+    query_line(pairs::zero(), shift, 2, 2, 1, most, most, most);
+    query_line(pairs::zero(), shift, 2, 2, 1, 1, 1, most);
+    query_line(pairs::zero(), shift, 2, 2, 1, 1, 1, 0);
+}
+
 // Fills both buffers from start on, and prints the answer.
 fn fill_line(start: u32, xs: &mut [u32], ys: &mut [u32]) {
     print::number(start);
@@ -75,32 +87,47 @@ fn fill_line(start: u32, xs: &mut [u32], ys: &mut [u32]) {
     print::judgement_line(answer, b"done");
 }
 
+// What two buffers hold before a fill.
+const MARK: u32 = 3735928559;
+
 pub fn fills() {
     last_three();
     past_the_last();
-    fill_line(7, &mut [0u32; 0], &mut [0u32; 0]);
-    fill_line(0, &mut [0u32; 4], &mut [0u32; 5]);
+    fill_line(7, &mut [MARK; 0], &mut [MARK; 0]);
+    other_lengths();
     last_one();
 }
 
 fn last_three() {
-    let mut xs = [0u32; 3];
-    let mut ys = [0u32; 3];
+    let mut xs = [MARK; 3];
+    let mut ys = [MARK; 3];
     fill_line(4294967293, &mut xs, &mut ys);
     print::point_line(Point { x: xs[0], y: ys[0] });
     print::point_line(Point { x: xs[1], y: ys[1] });
     print::point_line(Point { x: xs[2], y: ys[2] });
 }
 
+// Refused under 9: the first and the last place of both buffers hold what they held.
 fn past_the_last() {
-    let mut xs = [0u32; 4];
-    let mut ys = [0u32; 4];
+    let mut xs = [MARK; 4];
+    let mut ys = [MARK; 4];
     fill_line(4294967293, &mut xs, &mut ys);
+    print::point_line(Point { x: xs[0], y: ys[0] });
+    print::point_line(Point { x: xs[3], y: ys[3] });
+}
+
+// Refused under 8, where 9 is due too.
+fn other_lengths() {
+    let mut xs = [MARK; 4];
+    let mut ys = [MARK; 5];
+    fill_line(4294967295, &mut xs, &mut ys);
+    print::point_line(Point { x: xs[0], y: ys[0] });
+    print::point_line(Point { x: xs[3], y: ys[3] });
 }
 
 fn last_one() {
-    let mut xs = [0u32; 1];
-    let mut ys = [0u32; 1];
+    let mut xs = [MARK; 1];
+    let mut ys = [MARK; 1];
     fill_line(4294967295, &mut xs, &mut ys);
     print::point_line(Point { x: xs[0], y: ys[0] });
 }

@@ -124,6 +124,20 @@ fn query_section(output: &mut impl Write) -> io::Result<()> {
         let cell = Query { m, a, column, row, block };
         query_line(output, &Pair::standard(), NO_SHIFT, level, cell)?;
     }
+    // With the zero pair every later refusal is due too: 2, 4, 5, 6, 7, 3.
+    let most = u32::MAX;
+    let in_order = [
+        (33, [most; 5]),
+        (2, [most; 5]),
+        (2, [2, most, most, most, most]),
+        (2, [2, 1, most, most, most]),
+        (2, [2, 1, 1, 1, most]),
+        (2, [2, 1, 1, 1, 0]),
+    ];
+    let zero = Pair { x: [0; 32], y: [0; 32] };
+    for (level, [m, a, column, row, block]) in in_order {
+        query_line(output, &zero, NO_SHIFT, level, Query { m, a, column, row, block })?;
+    }
     Ok(())
 }
 
@@ -169,28 +183,41 @@ fn query_line(
 
 fn fill_section(output: &mut impl Write) -> io::Result<()> {
     writeln!(output, "fill")?;
-    let fills =
-        [(4_294_967_293, 3, 3), (4_294_967_293, 4, 4), (7, 0, 0), (0, 4, 5), (4_294_967_295, 1, 1)];
+    let fills = [
+        (4_294_967_293, 3, 3),
+        (4_294_967_293, 4, 4),
+        (7, 0, 0),
+        (4_294_967_295, 4, 5),
+        (4_294_967_295, 1, 1),
+    ];
     for (start, x_length, y_length) in fills {
         fill_lines(output, start, x_length, y_length)?;
     }
     Ok(())
 }
 
+/// What two buffers hold before a fill.
+const MARK: u32 = 0xDEAD_BEEF;
+
+/// The answer and, of an accepted fill, every element; of a refused one the
+/// first and the fourth, which hold what they held.
 fn fill_lines(
     output: &mut impl Write,
     start: u32,
     x_length: usize,
     y_length: usize,
 ) -> io::Result<()> {
-    let (mut x_buffer, mut y_buffer) = (vec![0; x_length], vec![0; y_length]);
+    let (mut x_buffer, mut y_buffer) = (vec![MARK; x_length], vec![MARK; y_length]);
     write!(output, "{start} {x_length} ")?;
-    match fill(&other_pair(), OTHER_SHIFT, start, &mut x_buffer, &mut y_buffer) {
+    let answer = fill(&other_pair(), OTHER_SHIFT, start, &mut x_buffer, &mut y_buffer);
+    match answer {
         Ok(()) => writeln!(output, "done")?,
-        Err(refusal) => return writeln!(output, "{refusal}"),
+        Err(refusal) => writeln!(output, "{refusal}")?,
     }
-    for (x, y) in x_buffer.iter().zip(&y_buffer) {
-        writeln!(output, "{x} {y}")?;
+    for (place, (x, y)) in x_buffer.iter().zip(&y_buffer).enumerate() {
+        if answer.is_ok() || place == 0 || place == 3 {
+            writeln!(output, "{x} {y}")?;
+        }
     }
     Ok(())
 }
