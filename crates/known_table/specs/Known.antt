@@ -1,4 +1,5 @@
--- The known points of 01 that are marked (P): one table, and what an entry of it says of the definitions that the contracts cite.
+-- The known points of 01 that are marked (P): one table, and what an entry of it says of the definitions that the contracts cite. The two
+-- singles among them join the table with the unit numbers.
 use mathlib.Core.Path.{_≡_}
 use mathlib.Core.List.{List, [], _∷_}
 use Prim.Native.Nat.{ℕ}
@@ -21,7 +22,7 @@ pub data Known : Type 0 where
 abbrev pub shift-by : ℕ → Shift
 shift-by s = record { x = s; y = 0 }
 
--- what an entry says, of the standard pair P
+-- what an entry says of a plan P; `KnownPoints` takes the standard pair
 abbrev pub Holds : Plan → Known → Type 0
 Holds P (point-at i x y) = point (sequence P (shift-by 0)) i ≡ (x, y)
 Holds P (index-in s m a c r k i) = query-outcome P (shift-by s) largest-level m a k c r ≡ accepted i

@@ -11,7 +11,7 @@ pub record Walk : Type 0 where
   pub next : ℕ
   pub left : ℕ
 
--- a step says a visit or the end
+-- a step gives a visit or the end
 pub data Answer (A : Type 0) : Type 0 where
   visited : A → Answer A
   ended : Answer A
@@ -21,8 +21,9 @@ pub record Stepped (A : Type 0) : Type 0 where
   pub answer : Answer A
   pub walk : Walk
 
--- With none left, or past the last index, a step has ended and changes nothing. At the last index it gives that visit and leaves
--- none left and the index unmoved. Else it gives the next visit, adds one to the index and takes one from the visits left.
+-- With none left a step has ended and changes nothing; also past the last index, which indexes of 32 bits cannot be (C-19, C-23). At the
+-- last index it gives that visit and leaves none left and the index unmoved. Else it gives the next visit, adds one to the index and
+-- takes one from the visits left.
 unfoldable pub step : {A : Type 0} → (ℕ → A) → ℕ → Walk → Stepped A
 step visit-of last w =
     elim (eqb (w .left) 0) [

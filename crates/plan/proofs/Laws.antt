@@ -15,7 +15,7 @@ use Rattle.plan.specs.Pair.{pair}
 pub both : {x y u v : ℕ} → x ≡ u → y ≡ v → _≡_ {A = ℕ × ℕ} (x, y) (u, v)
 both e f = ap₂ (λ (a b : ℕ). (a, b)) e f
 
--- a step that tells the point of the next index tells its visit
+-- a step that gives the point of the next index gives its visit
 abbrev telling : Visit → Walk → Stepped Visit
 telling v w = record { answer = visited v; walk = w }
 

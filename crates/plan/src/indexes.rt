@@ -8,10 +8,10 @@ pub type Index = u32;
 // Its bits, and the last index.
 pub const INDEX_BITS: u32 = 32;
 
-pub const LAST_INDEX: Index = 4294967295;
+pub(crate) const LAST_INDEX: Index = 4294967295;
 
 // Whether count indexes from start on go past the last.
-pub fn past_last(start: Index, count: u64) -> bool
+pub(crate) fn past_last(start: Index, count: u64) -> bool
     ensures { λ r. ⌜ r ≡ past-last start count .holds ⌝ }
 {
     let last = LAST_INDEX as u64;

@@ -7,21 +7,7 @@ use Rattle.refusal.specs.declared.Refusal.the-variants as variant
 use Rattle.refusal.specs.declared.Judgement.{Judgement}
 use Rattle.refusal.specs.declared.Judgement.the-variants as judgement
 
--- 1: the pair is not 64 words
--- 2: the level is not 1 to 32
--- 3: not a net
--- 4: m above the level
--- 5: a above m
--- 6: column ≥ 2 ^ a or row ≥ 2 ^ (m - a)
--- 7: block ≥ 2 ^ (32 - m)
--- 8: buffers differ in length
--- 9: start + count above 2 ^ 32
--- 10: a region's edge or extent outside its limits
--- 11: the file is empty, too long, or not whole records
--- 12: bytes 8 to 31 of record 0 not zero
--- 13: the chain names a record that the file lacks
--- 14: the chain returns to a record
--- 15: a count of visits above 4,096
+-- the number in 01's refusal table; the limits stand at the tests
 abbrev pub number : Refusal → ℕ
 number variant.WordCount = 1
 number variant.Level = 2
@@ -57,9 +43,11 @@ values variant.MissingRecord = []
 values variant.ChainReturns = []
 values variant.VisitCount = []
 
+-- the outcome of a refused call
 abbrev pub of-refusal : {A : Type 0} → Refusal → Outcome A
 of-refusal r = refused (number r) (values r)
 
+-- the outcome of a call that hands out nothing else
 abbrev pub of-judgement : Judgement → Outcome Unit
 of-judgement judgement.Accepted = accepted tt
 of-judgement (judgement.Refused r) = of-refusal r

@@ -2,22 +2,37 @@
 ghost use mathlib.Core.Path.{_≡_};
 ghost use Rattle.refusal.specs.Refusal.{number};
 
-// Why a call refuses, in the order of 01's numbers 1 to 15.
+// Why a call refuses, with 01's numbers.
 pub enum Refusal {
+    // 1: the words are no pair.
     WordCount,
+    // 2: the level is unknown.
     Level,
+    // 3: not a net: the shape (m, a), and j, the least index above 0 that shares the cell of index 0.
     NotNet { m: u32, a: u32, j: u32 },
+    // 4: the size m is above the level.
     Size,
+    // 5: a is above m.
     Shape,
+    // 6: the column or the row lies outside the shape.
     Cell,
+    // 7: the block lies past the last index.
     Block,
+    // 8: two buffers differ in length.
     BufferLengths,
+    // 9: start and count go past the last index.
     IndexRange,
+    // 10: an edge or an extent of a region is outside its limits.
     Region,
+    // 11: the file is empty, too long, or not whole records.
     FileLength,
+    // 12: bytes of record 0 that must be zero are not.
     Header,
+    // 13: the chain names a record that the file lacks.
     MissingRecord,
+    // 14: the chain returns to a record.
     ChainReturns,
+    // 15: too many visits of one record.
     VisitCount,
 }
 

@@ -3,7 +3,7 @@ ghost use mathlib.Core.Path.{_≡_};
 ghost use Prim.Native.Nat.{_+_, _-_, _*_, _/_, _^_, _≤_, _<_};
 
 // The t highest bits of a word, shifted as 64 bits since t may be 0.
-pub fn top(word: u32, t: u32) -> u32
+pub(crate) fn top(word: u32, t: u32) -> u32
     requires { ⌜ t ≤ 32 ⌝ }
     ensures { λ r. ⌜ r ≡ word / 2 ^ (32 - t) ⌝ }
 {
@@ -11,7 +11,7 @@ pub fn top(word: u32, t: u32) -> u32
 }
 
 // The digits of high before width digits of low.
-pub fn join(high: u32, low: u32, width: u32) -> u32
+pub(crate) fn join(high: u32, low: u32, width: u32) -> u32
     requires { ⌜ (width ≤ 32) × (high * 2 ^ width + low < 2 ^ 32) ⌝ }
     ensures { λ r. ⌜ r ≡ high * 2 ^ width + low ⌝ }
 {

@@ -8,14 +8,14 @@ use crate::bits::top;
 use plan::Plan;
 
 // What is left of a word, and the index that belongs to it.
-pub struct Rest {
+pub(crate) struct Rest {
     pub word: u32,
     pub index: u32,
 }
 
 // A word cleared at the pivots of the first n words, the oldest first, and its index moved along. The pivot of a word is its
 // lowest bit.
-pub fn sweep(words: [u32; 32], indexes: [u32; 32], n: usize, v: u32, k: u32) -> Rest
+pub(crate) fn sweep(words: [u32; 32], indexes: [u32; 32], n: usize, v: u32, k: u32) -> Rest
     requires { ⌜ n ≤ 32 ⌝ }
     ensures { λ r. ⌜ Sweeps words indexes n v k (r .word) (r .index) ⌝ }
 {
@@ -33,14 +33,14 @@ pub fn sweep(words: [u32; 32], indexes: [u32; 32], n: usize, v: u32, k: u32) -> 
 }
 
 // What an elimination finds: bad is 0 and there is a basis, or bad is the least index that shares the cell of index 0.
-pub struct Elimination {
+pub(crate) struct Elimination {
     pub bad: u32,
     pub words: [u32; 32],
     pub indexes: [u32; 32],
 }
 
 // The columns of the shape (m, a), one after the other.
-pub fn eliminate(plan: Plan, m: u32, a: u32) -> Elimination
+pub(crate) fn eliminate(plan: Plan, m: u32, a: u32) -> Elimination
     requires { ⌜ Shape (generators plan) m a ⌝ }
     ensures { λ r. ⌜ Eliminates (generators plan) m a (r .bad) (r .words) (r .indexes) ⌝ }
 {
