@@ -15,8 +15,8 @@ pub enum Section {
     GapX,
     GapY,
     SumX,
-    // The query of a cell of the shape (m, a) in the block 0 or 5.
-    Cells { m: u32, a: u32 },
+    // The query of every cell of every shape of size m, each in the blocks 0 and 5.
+    Cells { m: u32 },
     // The query of the first cell of the shape (32, a).
     Largest,
 }
@@ -38,7 +38,7 @@ fn line(section: Section, i: u32) {
         Section::GapX => gap_line(b"gap-x ", 0, i),
         Section::GapY => gap_line(b"gap-y ", 32, i),
         Section::SumX => sum_line(i),
-        Section::Cells { m, a } => cell_line(m, a, i),
+        Section::Cells { m } => cell_line(m, i),
         Section::Largest => query_line(pairs::other(), pairs::other_shift(), 32, 32, i, 0, 0, 0),
     }
 }
@@ -75,17 +75,18 @@ fn sum_line(c: u32) {
     print::judgement_line(stratify::check(&words, 32), b"passed");
 }
 
-// Cells column after column, and each in two blocks.
-fn cell_line(m: u32, a: u32, i: u32) {
-    if a > m {
-        return;
-    }
+// Shapes with a rising, cells column after column, and each in two blocks.
+fn cell_line(m: u32, i: u32) {
     if m > 4 {
         return;
     }
-    let cell = i / 2;
+    let cells = 1u32 << m;
+    let a = i / 2 / cells;
+    if a > m {
+        return;
+    }
+    let cell = i / 2 % cells;
     let rows = 1u32 << (m - a);
-    let block = i % 2 * 5;
     query_line(
         pairs::other(),
         pairs::other_shift(),
@@ -94,7 +95,7 @@ fn cell_line(m: u32, a: u32, i: u32) {
         a,
         cell / rows,
         cell % rows,
-        block,
+        i % 2 * 5,
     );
 }
 

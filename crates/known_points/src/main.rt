@@ -23,7 +23,11 @@ fn main() {
     lines(Section::SumX, 32);
     single::checks_of_length();
     print::text(b"query\n");
-    small_queries();
+    lines(Section::Cells { m: 0 }, 2);
+    lines(Section::Cells { m: 1 }, 8);
+    lines(Section::Cells { m: 2 }, 24);
+    lines(Section::Cells { m: 3 }, 64);
+    lines(Section::Cells { m: 4 }, 160);
     lines(Section::Largest, 33);
     single::queries();
     single::queries_in_order();
@@ -31,23 +35,4 @@ fn main() {
     single::fills();
     print::text(b"walk\n");
     single::walks();
-}
-
-// Every cell of every shape with m up to 4, in the blocks 0 and 5.
-fn small_queries() {
-    lines(Section::Cells { m: 0, a: 0 }, 2);
-    lines(Section::Cells { m: 1, a: 0 }, 4);
-    lines(Section::Cells { m: 1, a: 1 }, 4);
-    lines(Section::Cells { m: 2, a: 0 }, 8);
-    lines(Section::Cells { m: 2, a: 1 }, 8);
-    lines(Section::Cells { m: 2, a: 2 }, 8);
-    lines(Section::Cells { m: 3, a: 0 }, 16);
-    lines(Section::Cells { m: 3, a: 1 }, 16);
-    lines(Section::Cells { m: 3, a: 2 }, 16);
-    lines(Section::Cells { m: 3, a: 3 }, 16);
-    lines(Section::Cells { m: 4, a: 0 }, 32);
-    lines(Section::Cells { m: 4, a: 1 }, 32);
-    lines(Section::Cells { m: 4, a: 2 }, 32);
-    lines(Section::Cells { m: 4, a: 3 }, 32);
-    lines(Section::Cells { m: 4, a: 4 }, 32);
 }

@@ -79,6 +79,9 @@ pub fn queries_in_order() {
     query_line(pairs::zero(), shift, 2, 2, 1, 1, 1, 0);
 }
 
+// What the buffers hold before a fill.
+const MARK: u32 = 3735928559;
+
 // Fills both buffers from start on, and prints the answer.
 fn fill_line(start: u32, xs: &mut [u32], ys: &mut [u32]) {
     print::number(start);
@@ -87,49 +90,34 @@ fn fill_line(start: u32, xs: &mut [u32], ys: &mut [u32]) {
     print::judgement_line(answer, b"done");
 }
 
-// What two buffers hold before a fill.
-const MARK: u32 = 3735928559;
-
-pub fn fills() {
-    last_three();
-    past_the_last();
-    fill_line(7, &mut [MARK; 0], &mut [MARK; 0]);
-    other_lengths();
-    last_one();
-}
-
-fn last_three() {
-    let mut xs = [MARK; 3];
-    let mut ys = [MARK; 3];
-    fill_line(4294967293, &mut xs, &mut ys);
+fn four_lines(xs: [u32; 5], ys: [u32; 5]) {
     print::point_line(Point { x: xs[0], y: ys[0] });
     print::point_line(Point { x: xs[1], y: ys[1] });
     print::point_line(Point { x: xs[2], y: ys[2] });
-}
-
-// Refused under 9: the first and the last place of both buffers hold what they held.
-fn past_the_last() {
-    let mut xs = [MARK; 4];
-    let mut ys = [MARK; 4];
-    fill_line(4294967293, &mut xs, &mut ys);
-    print::point_line(Point { x: xs[0], y: ys[0] });
     print::point_line(Point { x: xs[3], y: ys[3] });
 }
 
-// Refused under 8, where 9 is due too.
-fn other_lengths() {
-    let mut xs = [MARK; 4];
+// A fill of the first n and k places of two buffers, and then the first four places of both.
+fn fill_lines(start: u32, n: usize, k: usize) {
+    let mut xs = [MARK; 5];
     let mut ys = [MARK; 5];
-    fill_line(4294967295, &mut xs, &mut ys);
-    print::point_line(Point { x: xs[0], y: ys[0] });
-    print::point_line(Point { x: xs[3], y: ys[3] });
+    if n > 5 {
+        return;
+    }
+    if k > 5 {
+        return;
+    }
+    fill_line(start, &mut xs[..n], &mut ys[..k]);
+    four_lines(xs, ys);
 }
 
-fn last_one() {
-    let mut xs = [MARK; 1];
-    let mut ys = [MARK; 1];
-    fill_line(4294967295, &mut xs, &mut ys);
-    print::point_line(Point { x: xs[0], y: ys[0] });
+// To the last index; past it; of length 0; under 8 where 9 is due too; of the last index alone.
+pub fn fills() {
+    fill_lines(4294967293, 3, 3);
+    fill_lines(4294967293, 4, 4);
+    fill_lines(7, 0, 0);
+    fill_lines(4294967295, 4, 5);
+    fill_lines(4294967295, 1, 1);
 }
 
 // One step: prints the visit or the end, and hands back the walk after it.

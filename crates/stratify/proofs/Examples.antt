@@ -1,4 +1,5 @@
 -- Demand 3 at its limits, of the standard pair under any shift. Assumes nothing.
+use Prim.Native.Nat.{ℕ, _-_, _^_, _≤_, _<_}
 use lib.Dec.{lit<, lit≤}
 use Rattle.plan.specs.declared.pair.Shift.{Shift}
 use Rattle.plan.specs.Pair.{standard-pair}
@@ -7,25 +8,15 @@ use Rattle.stratify.specs.Theorem.{VisitedOnce}
 use Rattle.stratify.proofs.Theorem.{theorems}
 
 module _ (s : Shift) (fits : ShiftFits s) where
-  -- size 0 in the last block: one index, one cell
-  last-index-alone : VisitedOnce standard-pair s 0 0 4294967295 0 0
-  last-index-alone =
-      theorems .standard .covered s fits 0 0 4294967295 0 0
-      (record { size = lit≤ tt; wide = lit≤ tt; column = lit< tt; row = lit< tt; block = lit< tt })
+  once : (m a k c r : ℕ) → m ≤ 32 → a ≤ m → c < 2 ^ a → r < 2 ^ (m - a) → k < 2 ^ (32 - m) → VisitedOnce standard-pair s m a k c r
+  once m a k c r size wide hc hr hk = theorems .standard .covered s fits m a k c r (record { size = size; wide = wide; column = hc; row = hr; block = hk })
 
-  -- all indexes in one block: the last of 2^32 rows, and the last of 2^32 columns
-  last-row : VisitedOnce standard-pair s 32 0 0 0 4294967295
-  last-row =
-      theorems .standard .covered s fits 32 0 0 0 4294967295
-      (record { size = lit≤ tt; wide = lit≤ tt; column = lit< tt; row = lit< tt; block = lit< tt })
-
-  last-column : VisitedOnce standard-pair s 32 32 0 4294967295 0
-  last-column =
-      theorems .standard .covered s fits 32 32 0 4294967295 0
-      (record { size = lit≤ tt; wide = lit≤ tt; column = lit< tt; row = lit< tt; block = lit< tt })
-
-  -- 01: block 268,435,455 with m 4
-  last-block : VisitedOnce standard-pair s 4 1 268435455 1 7
-  last-block =
-      theorems .standard .covered s fits 4 1 268435455 1 7
-      (record { size = lit≤ tt; wide = lit≤ tt; column = lit< tt; row = lit< tt; block = lit< tt })
+  -- size 0 in the last block; all indexes in one block, the last of 2^32 rows and the last of 2^32 columns; 01's last block with m 4
+  limits : VisitedOnce standard-pair s 0 0 4294967295 0 0 × VisitedOnce standard-pair s 32 0 0 0 4294967295
+      × VisitedOnce standard-pair s 32 32 0 4294967295 0 × VisitedOnce standard-pair s 4 1 268435455 1 7
+  limits = (
+    once 0 0 4294967295 0 0 (lit≤ tt) (lit≤ tt) (lit< tt) (lit< tt) (lit< tt),
+    once 32 0 0 0 4294967295 (lit≤ tt) (lit≤ tt) (lit< tt) (lit< tt) (lit< tt),
+    once 32 32 0 4294967295 0 (lit≤ tt) (lit≤ tt) (lit< tt) (lit< tt) (lit< tt),
+    once 4 1 268435455 1 7 (lit≤ tt) (lit≤ tt) (lit< tt) (lit< tt) (lit< tt),
+  )

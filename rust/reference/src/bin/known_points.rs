@@ -196,28 +196,25 @@ fn fill_section(output: &mut impl Write) -> io::Result<()> {
     Ok(())
 }
 
-/// What two buffers hold before a fill.
+/// What the buffers hold before a fill.
 const MARK: u32 = 0xDEAD_BEEF;
 
-/// The answer and, of an accepted fill, every element; of a refused one the
-/// first and the fourth, which hold what they held.
+/// Fills the first places of two buffers of five; the answer, and then the
+/// first four places of both.
 fn fill_lines(
     output: &mut impl Write,
     start: u32,
     x_length: usize,
     y_length: usize,
 ) -> io::Result<()> {
-    let (mut x_buffer, mut y_buffer) = (vec![MARK; x_length], vec![MARK; y_length]);
+    let (mut x, mut y) = ([MARK; 5], [MARK; 5]);
     write!(output, "{start} {x_length} ")?;
-    let answer = fill(&other_pair(), OTHER_SHIFT, start, &mut x_buffer, &mut y_buffer);
-    match answer {
+    match fill(&other_pair(), OTHER_SHIFT, start, &mut x[..x_length], &mut y[..y_length]) {
         Ok(()) => writeln!(output, "done")?,
         Err(refusal) => writeln!(output, "{refusal}")?,
     }
-    for (place, (x, y)) in x_buffer.iter().zip(&y_buffer).enumerate() {
-        if answer.is_ok() || place == 0 || place == 3 {
-            writeln!(output, "{x} {y}")?;
-        }
+    for (x, y) in x.iter().zip(&y).take(4) {
+        writeln!(output, "{x} {y}")?;
     }
     Ok(())
 }
