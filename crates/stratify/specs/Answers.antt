@@ -21,7 +21,7 @@ abbrev pub of-verdict : Verdict → Outcome Unit
 of-verdict passed = accepted tt
 of-verdict (refused m a j) = not-net m a j
 
--- 1, 2, 3
+-- what the check comes to: refused under 1, 2 or 3, in this order
 abbrev pub check-outcome : List ℕ → ℕ → Outcome Unit
 check-outcome words level = first (not-a-pair words ∷ unknown-level level ∷ []) (of-verdict (check (generators (loaded words)) level))
 
@@ -43,6 +43,7 @@ not-a-cell b m a c r = record { number = 6; holds = leb (b ^ a) c || leb (b ^ (m
 abbrev pub not-a-block : (b w m k : ℕ) → Test
 not-a-block b w m k = record { number = 7; holds = leb (b ^ (w - m)) k }
 
+-- all but 3
 abbrev pub query-tests : (level m a k c r : ℕ) → List Test
 query-tests level m a k c r =
     unknown-level level ∷ above-level level m ∷ not-a-shape m a ∷ not-a-cell 2 m a c r ∷ not-a-block 2 index-bits m k ∷ []
@@ -52,7 +53,7 @@ abbrev pub of-location : ℕ → ℕ → Location → Outcome ℕ
 of-location m a (found i) = accepted i
 of-location m a (no-net j) = not-net m a j
 
--- 2, 4, 5, 6, 7, 3
+-- what the query comes to: refused under 2, 4, 5, 6, 7 or 3, in this order
 abbrev pub query-outcome : Plan → Shift → (level m a k c r : ℕ) → Outcome ℕ
 query-outcome P s level m a k c r = first (query-tests level m a k c r) (of-location m a (locate (generators P) (finish s) m a k c r))
 

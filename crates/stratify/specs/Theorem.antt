@@ -1,6 +1,6 @@
--- Demand 3 of 01, about the definitions that the contracts cite: `sequence`, `filled`, `step`, `checking`, `querying`. First the
+-- Demand 3 of 01, about the definitions that the contracts cite: `sequence`, `filled`, `step`, `check-outcome`, `query-outcome`. First the
 -- statements, as records; at the end `Theorems`, the whole list with the assumptions of each, of which proofs/Theorem gives one term.
--- Everywhere S is `sequence P s`: the points of the plan P (01: the pair) under the shift s (01: the scramble).
+-- `sequence P s` is the points of the plan P (01: the pair) under the shift s (01: the scramble).
 use mathlib.Core.Path.{_≡_}
 use mathlib.Core.Logic.{_≢_, _↔_}
 use mathlib.Core.List.{List}
