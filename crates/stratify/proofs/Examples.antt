@@ -9,7 +9,8 @@ use Rattle.stratify.proofs.Theorem.{theorems}
 
 module _ (s : Shift) (fits : ShiftFits s) where
   once : (m a k c r : ℕ) → m ≤ 32 → a ≤ m → c < 2 ^ a → r < 2 ^ (m - a) → k < 2 ^ (32 - m) → VisitedOnce standard-pair s m a k c r
-  once m a k c r size wide hc hr hk = theorems .standard .covered s fits m a k c r (record { size = size; wide = wide; column = hc; row = hr; block = hk })
+  once m a k c r size wide hc hr hk =
+      theorems .standard .covered s fits m a k c r (record { size = size; wide = wide; column = hc; row = hr; block = hk })
 
   -- size 0 in the last block; all indexes in one block, the last of 2^32 rows and the last of 2^32 columns; 01's last block with m 4
   limits : VisitedOnce standard-pair s 0 0 4294967295 0 0 × VisitedOnce standard-pair s 32 0 0 0 4294967295
