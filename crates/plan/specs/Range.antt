@@ -7,6 +7,7 @@ use Rattle.refusal.specs.Outcome.{Test}
 abbrev pub index-bits : ℕ
 index-bits = 32
 
+-- the last index
 abbrev pub last-index : ℕ
 last-index = 2 ^ index-bits - 1
 
