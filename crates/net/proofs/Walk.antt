@@ -1,19 +1,18 @@
 -- The steps of a walk as one list, for any visits and any last index. Assumes nothing.
 use mathlib.Core.Path.{_≡_, refl, sym, ap, ap₂, _∙_}
 use mathlib.Core.Logic.{_⊎_, inl, inr, _≢_}
-use mathlib.Core.List.{List, [], _∷_, _++_, map, map-map}
+use mathlib.Core.List.{List, [], _∷_, _++_, map, append-nil}
 use Prim.Native.Nat.{ℕ, zero, suc, _+_, _-_, _*_, _^_, _≤_, _<_, min}
 use native.Mathlib.Numerals.{add-one}
 use native.Mathlib.Omega.{arith}
 use borrow.Author.Tests.{lt-ltb, le-ltb, eq-eqb, ne-eqb}
 use lib.ListN.{replicate, take}
-use lib.Seq.{take-at}
 use Rattle.linear.proofs.Cases.{lt-or-ge}
 use Rattle.net.specs.Sequence.{Sequence}
-use Rattle.net.specs.Run.{range, Visit, visit}
-use Rattle.net.specs.Walk.{Walk, Answer, visited, ended, Stepped, step, answers, after, given}
+use Rattle.net.specs.Run.{range, visit, visits}
+use Rattle.net.specs.Walk.{Walk, Answer, visited, ended, Stepped, step, answers, after, given, told}
 use Rattle.net.specs.Steps.{Walked, WalkedByHand, WalkedRun}
-use Rattle.net.proofs.Run.{length-each, take-each}
+use Rattle.net.proofs.Run.{take-each}
 
 abbrev at : ℕ → ℕ → Walk
 at s l = record { next = s; left = l }
@@ -144,14 +143,38 @@ module _ {A : Type 0} (visit-of : ℕ → A) where
         let end = last-walk n start count h f in
         record { list = list n start count count all; next = ap (λ (w : Walk). w .next) end; left = ap (λ (w : Walk). w .left) end }
 
+-- ---- the visits that were given
+
+module _ {A : Type 0} (visit-of : ℕ → A) where
+  told-append : (l : List ℕ) (r : List (Answer A)) → told (map (λ i. visited (visit-of i)) l ++ r) ≡ map visit-of l ++ told r
+  unfolding told
+  told-append [] r = refl
+  told-append (i ∷ l) r = ap (λ (t : List A). visit-of i ∷ t) (told-append l r)
+
+  told-ended : (k : ℕ) → told {A = A} (replicate k ended) ≡ []
+  unfolding told
+  told-ended zero = refl
+  told-ended (suc k) = told-ended k
+
+  pub told-given : (n start count : ℕ) → told (given visit-of n start count) ≡ map visit-of (range start (min n count))
+  told-given n start count =
+      told-append (range start (min n count)) (replicate (n - count) ended)
+      ∙ ap (λ (t : List A). map visit-of (range start (min n count)) ++ t) (told-ended (n - count))
+      ∙ append-nil (map visit-of (range start (min n count)))
+
+  -- where start and count go past no index
+  pub list-within : (last start count n : ℕ) → start + count ≤ suc last
+      → answers visit-of last n (record { next = start; left = count }) ≡ given visit-of n start count
+  list-within last start count n room =
+      let all : min count (suc last - start) ≡ count = omega arith in
+      walked-by-hand visit-of last (record { next = start; left = count }) n .list ∙ ap (given visit-of n start) all
+
 -- ---- a walk over a run
 
-pub walked-run : (S : Sequence) (m k last count n : ℕ) → k * S .b ^ m ≤ last → k * S .b ^ m + count ≤ suc last → WalkedRun S m k last count n
-walked-run S m k last count n h f = record {
-  list = ap (λ (l : List (Answer Visit)). take size (take c l)) (walked (visit S) last first count n h f .list)
-      ∙ ap (take size) (take-at (map (λ i. visited (visit S i)) (range first c)) (replicate (n - count) ended) c (length-each _ first c))
-      ∙ take-each (λ i. visited (visit S i)) first c size ∙ ap (λ (e : ℕ). map (λ i. visited (visit S i)) (range first e)) turned
-      ∙ sym (ap (map visited) (take-each (visit S) first size c) ∙ map-map visited (visit S) (range first (min c size)));
+pub walked-run : (S : Sequence) (m k last count n : ℕ) → k * S .b ^ m + count ≤ suc last → WalkedRun S m k last count n
+walked-run S m k last count n room = record {
+  list = ap (take size) (ap told (list-within (visit S) last first count n room) ∙ told-given (visit S) n first count)
+      ∙ take-each (visit S) first (min n count) size ∙ ap (visits S first) turned ∙ sym (take-each (visit S) first size (min n count));
 }
   where
     first : ℕ
@@ -160,8 +183,5 @@ walked-run S m k last count n h f = record {
     size : ℕ
     size = S .b ^ m
 
-    c : ℕ
-    c = min n count
-
-    turned : min size c ≡ min c size
+    turned : min size (min n count) ≡ min (min n count) size
     turned = omega arith

@@ -1,11 +1,10 @@
 -- Statements on lists: the visits of a run and of a part of it, and the steps of a walk.
 use mathlib.Core.Path.{_≡_}
-use mathlib.Core.List.{map}
 use Prim.Native.Nat.{ℕ, suc, _+_, _-_, _*_, _^_, _<_, min}
 use lib.ListN.{take, drop}
 use Rattle.net.specs.Sequence.{Sequence, Finds}
 use Rattle.net.specs.Run.{visit, visits, run, hits}
-use Rattle.net.specs.Walk.{Walk, visited, answers, after, given}
+use Rattle.net.specs.Walk.{Walk, answers, after, given, told}
 
 -- Where a block visits each interval once, its run has one visit in each. The n visits from index p of a block on, as far as they go
 -- into the block, are the run from there.
@@ -27,5 +26,4 @@ pub record WalkedByHand {A : Type 0} (visit-of : ℕ → A) (last : ℕ) (w : Wa
 
 -- the visits that n steps give on a walk opened at the first index of block k, as far as they go into the block, are the run
 pub record WalkedRun (S : Sequence) (m k last count n : ℕ) : Type 0 where
-  pub list : take (S .b ^ m) (take (min n count) (answers (visit S) last n (record { next = k * S .b ^ m; left = count })))
-      ≡ map visited (take (min n count) (run S m k))
+  pub list : take (S .b ^ m) (told (answers (visit S) last n (record { next = k * S .b ^ m; left = count }))) ≡ take (min n count) (run S m k)

@@ -1,23 +1,23 @@
 -- Point calls, fills and walks give the visits of consecutive indexes. Assumes nothing.
 use mathlib.Core.Path.{_≡_, refl, sym, ap, _∙_}
 use mathlib.Core.Bool.{false, not}
-use mathlib.Core.List.{List, [], _∷_, _++_, map, append-nil}
+use mathlib.Core.List.{List, [], _∷_, map}
 use Prim.Native.Nat.{ℕ, zero, suc, _+_, _-_, _^_, _≤_, min}
-use native.Mathlib.Omega.{arith}
 use borrow.Author.Tests.{ltb-false, not-false, eqb-true}
 use lib.Dec.{eqb, ltb}
-use lib.ListN.{length, replicate}
+use lib.ListN.{length}
 use Rattle.net.specs.Sequence.{Sequence}
 use Rattle.net.specs.Run.{Visit, range, visit, visits}
-use Rattle.net.specs.Walk.{Walk, Answer, visited, ended, answers, given}
+use Rattle.net.specs.Walk.{Walk, answers, given, told}
 use Rattle.net.specs.Steps.{Walked}
-use Rattle.net.proofs.Walk.{walked, walked-by-hand}
-use Rattle.refusal.specs.Outcome.{Outcome, accepted, refused, first}
+use Rattle.net.proofs.Walk as net
+use Rattle.net.proofs.Walk.{told-given, list-within}
+use Rattle.refusal.specs.Outcome.{accepted, first}
 use Rattle.refusal.proofs.First.{first-none, first-accepted}
 use Rattle.plan.specs.Fill.{fill-outcome, filled}
 use Rattle.plan.specs.Range.{last-index}
 use Rattle.plan.specs.Walk.{open-outcome}
-use Rattle.plan.specs.Lists.{paired, held, told}
+use Rattle.plan.specs.Lists.{paired, held, walked}
 use Rattle.plan.proofs.Filling.{written}
 
 -- ---- fills
@@ -38,10 +38,6 @@ filled-visits S start xs ys e =
 
 -- ---- walks
 
-value : Outcome Walk → Walk → Walk
-value (accepted w) d = w
-value (refused n vs) d = d
-
 module _ (start count : ℕ) (w : Walk) (accepts : open-outcome start count ≡ accepted w) where
   abbrev new : Walk
   new = record { next = start; left = count }
@@ -50,38 +46,19 @@ module _ (start count : ℕ) (w : Walk) (accepts : open-outcome start count ≡ 
   passed = first-accepted (accepted new) 9 [] (ltb (2 ^ 32) (start + count)) accepts
 
   pub opened : w ≡ record { next = start; left = count }
-  unfolding value
-  opened = sym (ap (λ (o : Outcome Walk). value o w) (sym (first-none (accepted new)) ∙ passed .1))
+  opened = let e : accepted new ≡ accepted w = sym (first-none (accepted new)) ∙ passed .1 in cc
 
   pub within : start + count ≤ 2 ^ 32
   within = ltb-false (2 ^ 32) (start + count) (passed .0)
 
-told-append : (S : Sequence) (l : List ℕ) (r : List (Answer Visit)) → told (map (λ i. visited (visit S i)) l ++ r) ≡ map (visit S) l ++ told r
-unfolding told
-told-append S [] r = refl
-told-append S (i ∷ l) r = ap (λ (t : List Visit). visit S i ∷ t) (told-append S l r)
-
-told-ended : (k : ℕ) → told (replicate k ended) ≡ []
-unfolding told
-told-ended zero = refl
-told-ended (suc k) = told-ended k
-
-told-given : (S : Sequence) (n start count : ℕ) → told (given (visit S) n start count) ≡ visits S start (min n count)
-told-given S n start count =
-    told-append S (range start (min n count)) (replicate (n - count) ended)
-    ∙ ap (λ (t : List Visit). visits S start (min n count) ++ t) (told-ended (n - count))
-    ∙ append-nil (visits S start (min n count))
-
 module _ (S : Sequence) (start count : ℕ) (w : Walk) (accepts : open-outcome start count ≡ accepted w) (n : ℕ) where
   pub steps : answers (visit S) last-index n w ≡ given (visit S) n start count
   steps =
-      let room = within start count w accepts in
-      let all : min count (suc last-index - start) ≡ count = omega arith in
       ap (answers (visit S) last-index n) (opened start count w accepts)
-      ∙ walked-by-hand (visit S) last-index (record { next = start; left = count }) n .list ∙ ap (given (visit S) n start) all
+      ∙ list-within (visit S) last-index start count n (within start count w accepts)
 
-  pub walk-visits : told (answers (visit S) last-index n w) ≡ visits S start (min n count)
-  walk-visits = ap told steps ∙ told-given S n start count
+  pub walk-visits : walked S n w ≡ visits S start (min n count)
+  walk-visits = ap told steps ∙ told-given (visit S) n start count
 
   pub last-walk : start ≤ last-index → Walked (visit S) last-index start count n
-  last-walk from = walked (visit S) last-index start count n from (within start count w accepts)
+  last-walk from = net.walked (visit S) last-index start count n from (within start count w accepts)

@@ -3,7 +3,7 @@ use mathlib.Core.List.{List, [], _∷_, map}
 use Prim.Native.Nat.{ℕ, suc}
 use Rattle.net.specs.Sequence.{Sequence, point}
 use Rattle.net.specs.Run.{Visit, range, visit}
-use Rattle.net.specs.Walk.{Walk, Answer, visited, ended, answers}
+use Rattle.net.specs.Walk.{Walk, answers, told}
 use Rattle.plan.specs.Range.{last-index}
 use Rattle.plan.specs.Fill.{Buffers}
 
@@ -23,12 +23,6 @@ paired start (x ∷ xs) (y ∷ ys) = at start (x, y) ∷ paired (suc start) xs y
 
 abbrev pub held : ℕ → Buffers → List Visit
 held start b = paired start (b .x) (b .y)
-
--- the visits that a list of steps has given
-unfoldable pub told : List (Answer Visit) → List Visit
-told [] = []
-told (visited v ∷ l) = v ∷ told l
-told (ended ∷ l) = told l
 
 -- the visits that n steps give, the first on the walk w and each later one on the walk that the one before it handed back
 abbrev pub walked : Sequence → ℕ → Walk → List Visit

@@ -1,5 +1,5 @@
 -- One term of `Theorems`: demand 3 from the theorems of net. Assumes nothing.
-use mathlib.Core.Path.{_≡_, refl, sym, ap, ap₂, _∙_, subst}
+use mathlib.Core.Path.{_≡_, refl, sym, ap, _∙_, subst}
 use mathlib.Core.Bool.{not}
 use mathlib.Core.List.{List}
 use Prim.Native.Nat.{ℕ, suc, _+_, _-_, _*_, _^_, _≤_, _<_, min}
@@ -7,14 +7,14 @@ use native.Mathlib.Omega.{arith}
 use borrow.Author.Tests.{not-false, eqb-true}
 use lib.Bits.{bitXor}
 use lib.Dec.{eqb}
-use lib.ListN.{length, take, drop}
+use lib.ListN.{length, take}
 use Rattle.digits.specs.Digits.{minus}
 use Rattle.digits.proofs.Two.{one-lt-two, minus-two}
 use Rattle.linear.specs.Unique.{Only, One}
 use Rattle.linear.proofs.Prime.{two}
 use Rattle.net.specs.Generators.{Below, Valid}
 use Rattle.net.specs.Sequence.{Sequence, column, row, VisitIn}
-use Rattle.net.specs.Finish.{plain, shift, Lawful}
+use Rattle.net.specs.Finish.{plain, Lawful}
 use Rattle.net.specs.Shape.{Shape, Passes}
 use Rattle.net.specs.Check.{check}
 use Rattle.net.specs.Query.{locate}
@@ -32,17 +32,19 @@ use Rattle.refusal.specs.Outcome.{accepted}
 use Rattle.refusal.proofs.First.{first-accepted}
 use Rattle.plan.specs.declared.pair.Plan.{Plan}
 use Rattle.plan.specs.declared.pair.Shift.{Shift}
-use Rattle.plan.specs.Pair.{generators, sequence, largest-level, unknown-level, loaded}
+use Rattle.plan.specs.Pair.{generators, finish, sequence, largest-level, unknown-level, loaded}
 use Rattle.plan.specs.Range.{last-index}
+use Rattle.plan.specs.Lists.{walked}
+use Rattle.net.specs.Walk.{Walk}
 use Rattle.plan.proofs.Loading.{loaded-accepted}
-use Rattle.plan.proofs.Lists.{filled-visits, opened, steps, walk-visits, last-walk}
+use Rattle.plan.proofs.Lists.{filled-visits, opened, within, steps, walk-visits, last-walk}
 use Rattle.stratify.specs.Answers.{of-verdict, of-location, check-outcome, query-outcome, ShiftFits, Level, Cell}
 use Rattle.stratify.specs.Theorem.{Related, VisitedOnce, Covered, Queried, Checked, Lists, GivesRun, StandardPair, Theorems}
 use Rattle.plan.proofs.Level.{level-bounds}
 use Rattle.stratify.proofs.Outcomes.{query-outcome-is, check-outcome-is, verdict-accepted, verdict-not-net, verdict-refuses}
 use Rattle.stratify.proofs.Outcomes.{location-accepted, location-not-net}
 
-lawful : (s : Shift) → ShiftFits s → Lawful 2 32 (shift 2 (s .x) (s .y))
+lawful : (s : Shift) → ShiftFits s → Lawful 2 32 (finish s)
 lawful s words = record { x = shift-lawful one-lt-two 32 (s .x) (words .x); y = shift-lawful one-lt-two 32 (s .y) (words .y) }
 
 -- ---- 1, 2: a plan that passes
@@ -56,7 +58,7 @@ module _ {P : Plan} (valid : Valid (generators P)) {M : ℕ} (fits : M ≤ large
     S = sequence P s
 
     one-visit : One (VisitIn S m a k c r)
-    one-visit = (_, N .stratified m a (cell .size) (cell .wide) .one-visit (shift 2 (s .x) (s .y)) (lawful s words) k c r (cell .column) (cell .row))
+    one-visit = (_, N .stratified m a (cell .size) (cell .wide) .one-visit (finish s) (lawful s words) k c r (cell .column) (cell .row))
 
     -- the query's answer, for any level that admits the cell
     answered : (i : ℕ) → Only (VisitIn S m a k c r) i → (level : ℕ) → Level level → m ≤ level → query-outcome P s level m a k c r ≡ accepted i
@@ -64,7 +66,7 @@ module _ {P : Plan} (valid : Valid (generators P)) {M : ℕ} (fits : M ≤ large
         let own : Cell level m a k c r = record { size = size; wide = cell .wide; column = cell .column; row = cell .row; block = cell .block } in
         let odd = nonzero (generators P) M passes m a (cell .size) (cell .wide) in
         query-outcome-is P s level m a k c r known own
-        ∙ ap (of-location m a) (locate-found (generators P) (shift 2 (s .x) (s .y)) m a k c r i odd only)
+        ∙ ap (of-location m a) (locate-found (generators P) (finish s) m a k c r i odd only)
 
     -- in base two a difference is an exclusive or
     as-xor : (c r u v p : ℕ) → Only (VisitIn (plain (generators P)) m a 0 (minus 2 c u) (minus 2 r v)) p
@@ -84,7 +86,7 @@ module _ {P : Plan} (valid : Valid (generators P)) {M : ℕ} (fits : M ≤ large
         )
 
     one-hit : hits S m a c r (run S m k) ≡ 1
-    one-hit = N .one-hit (shift 2 (s .x) (s .y)) (lawful s words) m a k c r (cell .size) (cell .wide) (cell .column) (cell .row)
+    one-hit = N .one-hit (finish s) (lawful s words) m a k c r (cell .size) (cell .wide) (cell .column) (cell .row)
 
     -- in a list of visits that begins with the block's first and goes through the block
     hit-in : (l : List Visit) (n : ℕ) → l ≡ visits S (k * 2 ^ m) n → 2 ^ m ≤ n → hits S m a c r (take (2 ^ m) l) ≡ 1
@@ -112,10 +114,10 @@ module _ {P : Plan} (valid : Valid (generators P)) {s : Shift} (words : ShiftFit
   shape : Shape (generators P) m a
   shape = let size = cell .size in let top = known .known in record { valid = valid; wide = cell .wide; fits = omega arith }
 
-  L : Located (generators P) (shift 2 (s .x) (s .y)) m a k c r
+  L : Located (generators P) (finish s) m a k c r
   L = net.theorems .located shape two (lawful s words) k c r (cell .column) (cell .row)
 
-  is : query-outcome P s level m a k c r ≡ of-location m a (locate (generators P) (shift 2 (s .x) (s .y)) m a k c r)
+  is : query-outcome P s level m a k c r ≡ of-location m a (locate (generators P) (finish s) m a k c r)
   is = query-outcome-is P s level m a k c r known cell
 
   queried : Queried P s level m a k c r
@@ -183,21 +185,14 @@ lists P s = record {
 gives-run : (P : Plan) (s : Shift) (m k : ℕ) → GivesRun P s m k
 gives-run P s m k = record {
   points = refl;
-  fills = λ p xs ys e. ap (take (2 ^ m - p)) (filled-visits S (k * 2 ^ m + p) xs ys e) ∙ part p (length xs);
-  walks = λ count n w e. ap (take (2 ^ m)) (walk-visits S (k * 2 ^ m) count w e n) ∙ from-first (min n count);
+  fills = λ p xs ys e. ap (take (2 ^ m - p)) (filled-visits S (k * 2 ^ m + p) xs ys e) ∙ net.theorems .runs S m k .part p (length xs);
+  walks = λ count n w e.
+      ap (λ (v : Walk). take (2 ^ m) (walked S n v)) (opened (k * 2 ^ m) count w e)
+      ∙ net.theorems .walked-run S m k last-index count n (within (k * 2 ^ m) count w e) .list;
 }
   where
     S : Sequence
     S = sequence P s
-
-    part : (p n : ℕ) → take (2 ^ m - p) (visits S (k * 2 ^ m + p) n) ≡ take n (drop p (run S m k))
-    part = net.theorems .runs S m k .part
-
-    from-first : (n : ℕ) → take (2 ^ m) (visits S (k * 2 ^ m) n) ≡ take n (run S m k)
-    from-first n =
-        let e : 2 ^ m ≡ 2 ^ m - 0 = omega arith in
-        let f : k * 2 ^ m ≡ k * 2 ^ m + 0 = omega arith in
-        ap₂ (λ (j i : ℕ). take j (visits S i n)) e f ∙ part 0 n
 
 -- ---- words that the check accepts
 
