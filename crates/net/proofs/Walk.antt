@@ -137,11 +137,14 @@ module _ {A : Type 0} (visit-of : ℕ → A) where
             let q : 0 - n ≡ suc l - suc n = omega arith in
             ap (λ (t : Stepped A). after visit-of last n (t .walk)) (step-last s l here) ∙ done ∙ ap₂ at p q
 
+    -- where start and count go past no index
+    pub list-within : (start count n : ℕ) → start + count ≤ suc last → answers visit-of last n (at start count) ≡ given visit-of n start count
+    list-within start count n f = list n start count count (omega arith)
+
     pub walked : (start count n : ℕ) → start ≤ last → start + count ≤ suc last → Walked visit-of last start count n
     walked start count n h f =
-        let all : count ≡ min count (suc last - start) = omega arith in
         let end = last-walk n start count h f in
-        record { list = list n start count count all; next = ap (λ (w : Walk). w .next) end; left = ap (λ (w : Walk). w .left) end }
+        record { list = list-within start count n f; next = ap (λ (w : Walk). w .next) end; left = ap (λ (w : Walk). w .left) end }
 
 -- ---- the visits that were given
 
@@ -161,13 +164,6 @@ module _ {A : Type 0} (visit-of : ℕ → A) where
       told-append (range start (min n count)) (replicate (n - count) ended)
       ∙ ap (λ (t : List A). map visit-of (range start (min n count)) ++ t) (told-ended (n - count))
       ∙ append-nil (map visit-of (range start (min n count)))
-
-  -- where start and count go past no index
-  pub list-within : (last start count n : ℕ) → start + count ≤ suc last
-      → answers visit-of last n (record { next = start; left = count }) ≡ given visit-of n start count
-  list-within last start count n room =
-      let all : min count (suc last - start) ≡ count = omega arith in
-      walked-by-hand visit-of last (record { next = start; left = count }) n .list ∙ ap (given visit-of n start) all
 
 -- ---- a walk over a run
 

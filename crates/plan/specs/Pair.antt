@@ -1,7 +1,7 @@
 -- Generator matrices of 32 words each, their sequences, levels, the standard pair, and the matrices that 64 words hold.
 use mathlib.Core.Bool.{not, _||_}
 use mathlib.Core.List.{List, [], _∷_}
-use Prim.Native.Nat.{ℕ}
+use Prim.Native.Nat.{ℕ, _≤_}
 use lib.Dec.{eqb, ltb}
 use lib.ListN.{length, take, drop, replicate}
 use Rattle.net.specs.Generators.{Generators}
@@ -42,6 +42,11 @@ largest-level = 32
 -- 2: the level is not 1 to the largest
 abbrev pub unknown-level : ℕ → Test
 unknown-level level = record { number = 2; holds = ltb level 1 || ltb largest-level level }
+
+-- and what it lets through
+pub record Level (level : ℕ) : Type 0 where
+  pub positive : 1 ≤ level
+  pub known : level ≤ largest-level
 
 -- ---- the standard pair
 

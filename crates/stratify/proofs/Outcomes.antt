@@ -12,8 +12,8 @@ use Rattle.refusal.specs.Outcome.{Outcome, accepted, not-net}
 use Rattle.refusal.proofs.First.{first-none, first-passes, accepted-refused}
 use Rattle.plan.specs.declared.pair.Plan.{Plan}
 use Rattle.plan.specs.declared.pair.Shift.{Shift}
-use Rattle.plan.specs.Pair.{generators, finish, loaded}
-use Rattle.stratify.specs.Answers.{of-verdict, check-outcome, of-location, query-outcome, Level, Cell}
+use Rattle.plan.specs.Pair.{generators, finish, loaded, Level}
+use Rattle.stratify.specs.Answers.{of-verdict, check-outcome, of-location, query-outcome, Cell}
 use Rattle.plan.proofs.Level.{level-known}
 use Rattle.stratify.proofs.Tests.{cell-within}
 
@@ -23,7 +23,7 @@ pub query-outcome-is : (P : Plan) (s : Shift) (level m a k c r : ℕ) → Level 
     → query-outcome P s level m a k c r ≡ of-location m a (locate (generators P) (finish s) m a k c r)
 query-outcome-is P s level m a k c r known cell =
     let after = of-location m a (locate (generators P) (finish s) m a k c r) in
-    first-passes after 2 _ (level-known level (known .positive) (known .known))
+    first-passes after 2 _ (level-known level known)
     ∙ first-passes after 4 _ (le-ltb level m (cell .size))
     ∙ first-passes after 5 _ (le-ltb m a (cell .wide))
     ∙ first-passes after 6 _ (cell-within m a c r (cell .column) (cell .row))
@@ -35,7 +35,7 @@ pub check-outcome-is : (words : List ℕ) (level : ℕ) → length words ≡ 64 
 check-outcome-is words level long known =
     let after = of-verdict (check (generators (loaded words)) level) in
     first-passes after 1 _ (ap not (eq-eqb (length words) 64 long))
-    ∙ first-passes after 2 [] (level-known level (known .positive) (known .known))
+    ∙ first-passes after 2 [] (level-known level known)
     ∙ first-none after
 
 -- ---- an outcome tells the verdict and the location

@@ -32,15 +32,15 @@ use Rattle.refusal.specs.Outcome.{accepted}
 use Rattle.refusal.proofs.First.{first-accepted}
 use Rattle.plan.specs.declared.pair.Plan.{Plan}
 use Rattle.plan.specs.declared.pair.Shift.{Shift}
-use Rattle.plan.specs.Pair.{generators, finish, sequence, largest-level, unknown-level, loaded}
+use Rattle.plan.specs.Pair.{generators, finish, sequence, largest-level, unknown-level, Level, loaded}
 use Rattle.plan.specs.Range.{last-index}
 use Rattle.plan.specs.Lists.{walked}
 use Rattle.net.specs.Walk.{Walk}
 use Rattle.plan.proofs.Loading.{loaded-accepted}
 use Rattle.plan.proofs.Lists.{filled-visits, opened, within, steps, walk-visits, last-walk}
-use Rattle.stratify.specs.Answers.{of-verdict, of-location, check-outcome, query-outcome, ShiftFits, Level, Cell}
+use Rattle.stratify.specs.Answers.{of-verdict, of-location, check-outcome, query-outcome, ShiftFits, Cell}
 use Rattle.stratify.specs.Theorem.{Related, VisitedOnce, Covered, Queried, Checked, Lists, GivesRun, StandardPair, Theorems}
-use Rattle.plan.proofs.Level.{level-bounds}
+use Rattle.plan.proofs.Level.{level-of}
 use Rattle.stratify.proofs.Outcomes.{query-outcome-is, check-outcome-is, verdict-accepted, verdict-not-net, verdict-refuses}
 use Rattle.stratify.proofs.Outcomes.{location-accepted, location-not-net}
 
@@ -201,9 +201,8 @@ accepted-covered words below M e =
     let (one, rest) = first-accepted _ 1 _ (not (eqb (length words) 64)) e in
     let (second, last) = first-accepted _ 2 _ (unknown-level M .holds) rest in
     let long = eqb-true (length words) 64 (not-false (eqb (length words) 64) one) in
-    let (positive, top) = level-bounds M second in
-    let known : Level M = record { positive = positive; known = top } in
-    covered (valid-loaded words below long) top (checked words below long known .accepted-iff .0 e)
+    let known = level-of M second in
+    covered (valid-loaded words below long) (known .known) (checked words below long known .accepted-iff .0 e)
 
 -- ---- the standard pair
 

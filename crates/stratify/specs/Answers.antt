@@ -10,7 +10,7 @@ use Rattle.refusal.specs.Refusal.{of-refusal}
 use Rattle.plan.specs.declared.pair.Plan.{Plan}
 use Rattle.plan.specs.declared.pair.Shift.{Shift}
 use Rattle.plan.specs.Range.{index-bits}
-use Rattle.plan.specs.Pair.{generators, finish, loaded, not-a-pair, largest-level, unknown-level}
+use Rattle.plan.specs.Pair.{generators, finish, loaded, not-a-pair, unknown-level}
 use Rattle.stratify.specs.declared.cells.Located.{Located}
 use Rattle.stratify.specs.declared.cells.Located.the-variants as located
 
@@ -63,11 +63,6 @@ of-located (located.Found i) = accepted i
 of-located (located.Refused r) = of-refusal r
 
 -- ---- what the refusals let through
-
--- 2: a known level
-pub record Level (level : ℕ) : Type 0 where
-  pub positive : 1 ≤ level
-  pub known : level ≤ largest-level
 
 -- 4, 5, 6, 7: column c and row r of the shape (m, a), of a size within M, in block k
 pub record Cell (M m a k c r : ℕ) : Type 0 where

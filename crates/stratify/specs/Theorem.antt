@@ -20,12 +20,12 @@ use Rattle.net.specs.Steps.{Walked, WalkedByHand}
 use Rattle.refusal.specs.Outcome.{accepted, not-net}
 use Rattle.plan.specs.declared.pair.Plan.{Plan}
 use Rattle.plan.specs.declared.pair.Shift.{Shift}
-use Rattle.plan.specs.Pair.{generators, sequence, standard-pair, largest-level, loaded}
+use Rattle.plan.specs.Pair.{generators, sequence, standard-pair, largest-level, Level, loaded}
 use Rattle.plan.specs.Fill.{fill-outcome, filled}
 use Rattle.plan.specs.Range.{index-bits, last-index}
 use Rattle.plan.specs.Walk.{open-outcome}
 use Rattle.plan.specs.Lists.{pointed, held, walked}
-use Rattle.stratify.specs.Answers.{ShiftFits, Level, Cell, check-outcome, query-outcome}
+use Rattle.stratify.specs.Answers.{ShiftFits, Cell, check-outcome, query-outcome}
 
 -- ---- 1, 2: one visit in every cell of every shape, and its relation to the plain run
 

@@ -1,7 +1,8 @@
--- A buffer that a loop fills from its front. Assumes nothing.
+-- A buffer that a loop fills from its front, and one filled with a word that runs along. Assumes nothing.
 use mathlib.Core.Path.{_≡_, refl, sym, ap, ap₂, _∙_}
 use mathlib.Core.List.{List, [], _∷_, _++_, map}
-use Prim.Native.Nat.{ℕ, _+_, _<_}
+use Prim.Native.Nat.{ℕ, suc, _+_, _<_}
+use native.Mathlib.Nat.{zero-add}
 use native.Mathlib.Numerals.{add-one}
 use native.Mathlib.Omega.{arith}
 use lib.ListN.{length, take, set, length-set}
@@ -31,3 +32,18 @@ module _ {A : Type 0} {f : ℕ → A} {s : ℕ} {l : List A} where
     pub filled-all : k ≡ length l → buffer ≡ map f (range s (length l))
     filled-all e =
         sym (take-all k buffer (omega (arith, now .long))) ∙ now .front ∙ ap (λ (n : ℕ). map f (range s n)) e
+
+-- and the word is what comes next: f of k, made by g from the one before
+pub record Running {A : Type 0} (f : ℕ → A) (k : ℕ) (l buffer : List A) (word : A) : Type 0 where
+  pub filled : Filled f 0 k l buffer
+  pub word-is : word ≡ f k
+
+pub running-none : {A : Type 0} {f : ℕ → A} {l : List A} → Running f 0 l l (f 0)
+running-none = record { filled = filled-none; word-is = refl }
+
+pub running-more : {A : Type 0} {f : ℕ → A} {k : ℕ} {l buffer : List A} {word : A} → Running f k l buffer word
+    → (g : A → A) → ((n : ℕ) → f (suc n) ≡ g (f n)) → k < length l → Running f (k + 1) l (set buffer k word) (g word)
+running-more {f = f} {k} {word = word} now g step h = record {
+  filled = filled-more (now .filled) word (now .word-is ∙ ap f (sym (zero-add k))) h;
+  word-is = ap g (now .word-is) ∙ sym (step k) ∙ ap f (sym (add-one k));
+}

@@ -8,14 +8,16 @@ use borrow.Author.Needs.{needs}
 use lib.ListN.{getD, drop}
 use mir.Syntax.{w32}
 use mir.Val.{Fits}
+use Rattle.digits.proofs.Digit.{lt-of-div}
+use Rattle.digits.proofs.Two.{one-lt-two}
 use Rattle.net.specs.Query.{locate}
 use Rattle.refusal.specs.Outcome.{Outcome, Test, first}
 use Rattle.refusal.proofs.First.{first-none, first-refuses, first-passes}
 use Rattle.plan.specs.Pair.{generators, finish}
 use Rattle.plan.proofs.Laws.{words-valid}
 use Rattle.stratify.specs.Answers.{of-location, query-tests, query-outcome}
-use Rattle.plan.proofs.Level.{level-bounds}
-use Rattle.stratify.proofs.Tests.{below-limit, past-limit, column-past, row-past, cell-within}
+use Rattle.plan.proofs.Level.{level-of}
+use Rattle.stratify.proofs.Tests.{past-limit, column-past, row-past, cell-within}
 use Rattle.stratify.proofs.cells.query.Statement.{statement}
 use Rattle.stratify.proofs.cells.query.Tie as tie
 
@@ -37,7 +39,7 @@ Passed n s =
 level-within : (c : tie.Else3) → c .before .before .before .before .args .level ≤ 32
 level-within c =
     let level = c .before .before .before .before .args .level in
-    level-bounds level (sym (c .before .before .before .unknown-level .ensures) ∙ c .before .before .if1 .left) .1
+    level-of level (sym (c .before .before .before .unknown-level .ensures) ∙ c .before .before .if1 .left) .known
 
 level-passed : (c : tie.Else1) → Passed 1 (c .before .before)
 level-passed c = first-passes (located (c .before .before)) 2 _ (sym (c .before .unknown-level .ensures) ∙ c .if1 .left)
@@ -53,7 +55,8 @@ cell-passed c =
     let s = c .before .before .before .before .before .before in
     shape-passed (c .before .before)
     ∙ first-passes (located s) 6 _
-    (cell-within (s .args .m) (s .args .a) (s .args .column) (s .args .row) (below-limit _ _ (c .before .if4 .left)) (below-limit _ _ (c .if5 .left)))
+    (cell-within (s .args .m) (s .args .a) (s .args .column) (s .args .row)
+    (lt-of-div one-lt-two _ _ (c .before .if4 .left)) (lt-of-div one-lt-two _ _ (c .if5 .left)))
 
 unknown-level-requires : tie.Need-unknown-level-requires
 unknown-level-requires c κs = search needs
@@ -86,7 +89,8 @@ returns-5 : tie.Need-returns-5
 returns-5 c =
     let s = c .before .before .before .before .before .before in
     sym (shape-passed (c .before .before) ∙ first-refuses (located s) 6 _
-    (row-past (s .args .m) (s .args .a) (s .args .column) (s .args .row) (below-limit _ _ (c .before .if4 .left)) (past-limit _ _ (c .if5 .taken))))
+    (row-past (s .args .m) (s .args .a) (s .args .column) (s .args .row)
+    (lt-of-div one-lt-two _ _ (c .before .if4 .left)) (past-limit _ _ (c .if5 .taken))))
 
 sub-if6 : tie.Need-sub-if6
 sub-if6 c = omega (arith, level-within (c .before .before))
@@ -116,9 +120,9 @@ find-requires c κs =
       record {
         size = omega arith;
         wide = omega arith;
-        column = below-limit _ _ (c .before .before .if4 .left);
-        row = below-limit _ _ (c .before .if5 .left);
-        block = below-limit _ _ (c .if6 .left);
+        column = lt-of-div one-lt-two _ _ (c .before .before .if4 .left);
+        row = lt-of-div one-lt-two _ _ (c .before .if5 .left);
+        block = lt-of-div one-lt-two _ _ (c .if6 .left);
       },
     )
 
@@ -127,7 +131,7 @@ returns-7 c =
     let d = c .before in
     let s = d .before .before .before .before .before .before .before in
     c .find .ensures
-    ∙ sym (cell-passed (d .before) ∙ first-passes (located s) 7 [] (lt-leb _ _ (below-limit _ _ (d .if6 .left))) ∙ first-none (located s))
+    ∙ sym (cell-passed (d .before) ∙ first-passes (located s) 7 [] (lt-leb _ _ (lt-of-div one-lt-two _ _ (d .if6 .left))) ∙ first-none (located s))
 
 pub query-spec : {M : Type 1} → statement M
 query-spec =

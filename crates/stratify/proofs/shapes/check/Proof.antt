@@ -15,7 +15,7 @@ use Rattle.plan.specs.declared.pair.Plan.{Plan}
 use Rattle.plan.specs.Pair.{generators, loaded, unknown-level}
 use Rattle.plan.proofs.Laws.{words-valid}
 use Rattle.stratify.specs.Answers.{of-verdict, check-outcome}
-use Rattle.plan.proofs.Level.{level-bounds}
+use Rattle.plan.proofs.Level.{level-of}
 use Rattle.stratify.proofs.shapes.check.Statement.{statement}
 use Rattle.stratify.proofs.shapes.check.Tie as tie
 
@@ -62,7 +62,7 @@ scan-requires c κs =
       words-valid (P .x) (P .y)
           (λ t. let f : Fits w32 (getD (P .x) t 0) = search needs in f .fits)
           (λ t. let f : Fits w32 (getD (P .y) t 0) = search needs in f .fits),
-      level-bounds _ (sym (c .before .unknown-level .ensures) ∙ c .if1 .left) .1,
+      level-of _ (sym (c .before .unknown-level .ensures) ∙ c .if1 .left) .known,
     )
 
 returns-3 : tie.Need-returns-3

@@ -1,27 +1,25 @@
 -- `pascal_columns` meets its contract: as for the identity, with a step that adds the word a row further down.
-use mathlib.Core.Path.{_≡_, refl, sym, ap, _∙_}
+use mathlib.Core.Path.{_≡_, _∙_}
 use Prim.Native.Nat.{ℕ, suc, _/_, _-_, _≤_}
-use native.Mathlib.Nat.{zero-add}
-use native.Mathlib.Numerals.{add-one}
 use native.Mathlib.Omega.{arith}
 use lib.Bits.{bitXor}
 use Rattle.digits.specs.Digits.{number}
 use Rattle.digits.proofs.Two.{one-lt-two, plus-two}
 use Rattle.net.specs.Standard.{binomial, pascal-column}
 use Rattle.net.proofs.Columns.{pascal-step}
-use Rattle.word.proofs.Filled.{Filled, filled-none, filled-more, filled-all}
+use Rattle.word.proofs.Filled.{Running, running-none, running-more, filled-all}
 use Rattle.word.proofs.standard.pascal_columns.Statement.{statement}
 use Rattle.word.proofs.standard.pascal_columns.Tie as tie
 
 abbrev Inv-loop : tie.InvT-loop
-Inv-loop columns₀ word₀ c₀ columns word c = (c ≤ 32) × (word ≡ pascal-column 2 32 c) × Filled (pascal-column 2 32) 0 c columns₀ columns
+Inv-loop columns₀ word₀ c₀ columns word c = (c ≤ 32) × Running (pascal-column 2 32) c columns₀ columns word
 
 abbrev μ-loop : tie.MeasureT-loop
 μ-loop columns₀ word₀ c₀ columns word c = 32 - c
 
 loop-holds : tie.Need-loop-holds Inv-loop μ-loop
 unfolding pascal-column number binomial
-loop-holds c = (omega arith, refl, filled-none)
+loop-holds c = (omega arith, running-none)
 
 mul-columns : tie.Need-mul-columns Inv-loop μ-loop
 mul-columns c = omega arith
@@ -36,18 +34,13 @@ loop-less : tie.Need-loop-less Inv-loop μ-loop
 loop-less c = omega arith
 
 loop-again : tie.Need-loop-again Inv-loop μ-loop
-loop-again c =
-    let l = c .before .loop in (
-      omega arith,
-      ap (λ (x : ℕ). bitXor x (x / 2)) (l .inv .1) ∙ sym (down (l .c)) ∙ ap (pascal-column 2 32) (sym (add-one (l .c))),
-      filled-more (l .inv .2) (l .word) (l .inv .1 ∙ ap (pascal-column 2 32) (sym (zero-add (l .c)))) (omega arith),
-    )
+loop-again c = (omega arith, running-more (c .before .loop .inv .1) (λ x. bitXor x (x / 2)) down (omega arith))
   where
     down : (n : ℕ) → pascal-column 2 32 (suc n) ≡ bitXor (pascal-column 2 32 n) (pascal-column 2 32 n / 2)
     down n = pascal-step one-lt-two 32 n ∙ plus-two (pascal-column 2 32 n) (pascal-column 2 32 n / 2)
 
 returns : tie.Need-returns Inv-loop μ-loop
-returns c = filled-all (c .before .loop .inv .2) (omega arith)
+returns c = filled-all (c .before .loop .inv .1 .filled) (omega arith)
 
 pub pascal-columns-spec : {M : Type 1} → statement M
 pascal-columns-spec = tie.close (tie.spec Inv-loop μ-loop loop-holds mul-columns array-write-columns add-c loop-less loop-again returns)
