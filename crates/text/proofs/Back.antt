@@ -1,0 +1,62 @@
+-- Decimal text reads back as its number.
+-- Assumes nothing.
+use mathlib.Core.Path.{_≡_, refl, sym, ap, _∙_}
+use mathlib.Core.Logic.{⊎-elim}
+use mathlib.Core.Bool.{Bool, true, false, cond}
+use mathlib.Core.List.{List, [], _∷_, _++_}
+use Prim.Native.Nat.{ℕ, zero, suc, _+_, _-_, _*_, _/_, _%_, _^_, _≤_, _<_}
+use native.Mathlib.Nat.{div-lt-iff-lt-mul, lt-of-lt-of-le, pow-suc}
+use native.Mathlib.Omega.{arith}
+use lib.Dec.{ltb, lit<, lit≤}
+use borrow.Author.Tests.{ltb-true, ltb-false}
+use Rattle.text.specs.Decimal.{decimal-in, decimal}
+use Rattle.text.specs.Theorem.{value, AllDigits}
+
+-- one digit more
+value-last : (before : ℕ) (ds : List ℕ) (d : ℕ) → value before (ds ++ (d ∷ [])) ≡ value before ds * 10 + (d - 48)
+unfolding value
+value-last before [] d = refl
+value-last before (e ∷ ds) d = value-last (before * 10 + (e - 48)) ds d
+
+-- n of at most f + 1 digits
+reads : (f n : ℕ) → n < 10 ^ suc f → value 0 (decimal-in f n) ≡ n
+unfolding decimal-in value
+reads zero n h = omega arith
+reads (suc f) n h = go (ltb n 10) refl (reads f (n / 10) (fewer f n h))
+  where
+    fewer : (f n : ℕ) → n < 10 ^ suc (suc f) → n / 10 < 10 ^ suc f
+    fewer f n h = let p : 10 ^ suc (suc f) ≡ 10 ^ suc f * 10 = pow-suc 10 (suc f) in div-lt-iff-lt-mul (lit< tt) .1 (omega (arith, p, h))
+
+    back : (n : ℕ) → n / 10 * 10 + (48 + n % 10 - 48) ≡ n
+    back n = omega arith
+
+    go : (b : Bool) → ltb n 10 ≡ b → value 0 (decimal-in f (n / 10)) ≡ n / 10
+        → value 0 (cond b ((48 + n) ∷ []) (decimal-in f (n / 10) ++ ((48 + n % 10) ∷ []))) ≡ n
+    go true e r = omega arith
+    go false e r = value-last 0 (decimal-in f (n / 10)) (48 + n % 10) ∙ ap (λ (v : ℕ). v * 10 + (48 + n % 10 - 48)) r ∙ back n
+
+pub reads-back : (n : ℕ) → n < 2 ^ 32 → value 0 (decimal n) ≡ n
+reads-back n h = reads 9 n (lt-of-lt-of-le h (lit≤ tt))
+
+digits-append : (ds es : List ℕ) → AllDigits ds → AllDigits es → AllDigits (ds ++ es)
+digits-append [] es p q = q
+digits-append (d ∷ ds) es p q = (p .0, digits-append ds es (p .1) q)
+
+digit : (k : ℕ) → k < 10 → AllDigits ((48 + k) ∷ [])
+digit k h = ((omega arith, omega arith), tt)
+
+rest : (n : ℕ) → n % 10 < 10
+rest n = omega arith
+
+digits-in : (f n : ℕ) → AllDigits (decimal-in f n)
+unfolding decimal-in
+digits-in zero n = digit (n % 10) (rest n)
+digits-in (suc f) n = go (ltb n 10) refl (digits-in f (n / 10))
+  where
+    go : (b : Bool) → ltb n 10 ≡ b → AllDigits (decimal-in f (n / 10))
+        → AllDigits (cond b ((48 + n) ∷ []) (decimal-in f (n / 10) ++ ((48 + n % 10) ∷ [])))
+    go true e r = digit n (ltb-true n 10 e)
+    go false e r = digits-append (decimal-in f (n / 10)) ((48 + n % 10) ∷ []) r (digit (n % 10) (rest n))
+
+pub all-digits : (n : ℕ) → AllDigits (decimal n)
+all-digits n = digits-in 9 n

@@ -1,0 +1,6 @@
+pub mod Puts
+pub mod Numbers
+pub mod Signs
+pub mod Back
+pub mod Joins
+pub mod Theorem

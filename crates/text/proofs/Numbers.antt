@@ -1,0 +1,56 @@
+-- The digits of a number by the cases of the code, the lengths of texts, and reading back.
+-- Assumes nothing.
+use mathlib.Core.Path.{_≡_, refl, sym, ap, _∙_}
+use mathlib.Core.Bool.{Bool, true, false, cond}
+use mathlib.Core.List.{List, [], _∷_, _++_}
+use Prim.Native.Nat.{ℕ, zero, suc, _+_, _-_, _/_, _%_, _≤_, _<_}
+use native.Mathlib.Omega.{arith}
+use lib.Dec.{ltb}
+use lib.IntN.{ℤ, pos, negsuc, natAbs}
+use lib.ListN.{length, length-append}
+use borrow.Author.Tests.{lt-ltb, le-ltb}
+use Rattle.text.specs.Decimal.{decimal-in, decimal, sign, number-text, signed-text, longest-number, longest-signed}
+
+pub digits-last : (f n : ℕ) → f ≡ 0 → decimal-in f n ≡ (48 + n % 10) ∷ []
+unfolding decimal-in
+digits-last f n e = ap (λ (k : ℕ). decimal-in k n) e
+
+pub digits-one : (f n : ℕ) → (f ≡ 0 → ⊥) → n < 10 → decimal-in f n ≡ (48 + n) ∷ []
+unfolding decimal-in
+digits-one zero n e h = absurd (e refl)
+digits-one (suc f) n e h = simp (lt-ltb n 10 h)
+
+pub digits-more : (f n : ℕ) → (f ≡ 0 → ⊥) → 10 ≤ n → decimal-in f n ≡ decimal-in (f - 1) (n / 10) ++ ((48 + n % 10) ∷ [])
+unfolding decimal-in
+digits-more zero n e h = absurd (e refl)
+digits-more (suc f) n e h = simp (le-ltb n 10 h) (ap (λ (k : ℕ). decimal-in k (n / 10) ++ ((48 + n % 10) ∷ [])) (one f))
+  where
+    one : (f : ℕ) → f ≡ suc f - 1
+    one f = omega arith
+
+decimal-length : (f n : ℕ) → length (decimal-in f n) ≤ suc f
+unfolding decimal-in
+decimal-length zero n = omega arith
+decimal-length (suc f) n = go (ltb n 10) (decimal-length f (n / 10))
+  where
+    go : (b : Bool) → length (decimal-in f (n / 10)) ≤ suc f → length (cond b ((48 + n) ∷ []) (decimal-in f (n / 10) ++ ((48 + n % 10) ∷ []))) ≤ suc (suc f)
+    go true h = omega arith
+    go false h = omega (arith, length-append (decimal-in f (n / 10)) ((48 + n % 10) ∷ []))
+
+pub number-length : (n last : ℕ) → length (number-text n last) ≡ length (decimal n) + 1
+unfolding number-text
+number-length n last = length-append (decimal n) (last ∷ [])
+
+pub number-longest : (n last : ℕ) → length (number-text n last) ≤ longest-number
+number-longest n last = omega (arith, number-length n last, decimal-length 9 n)
+
+sign-length : (z : ℤ) → length (sign z) ≤ 1
+sign-length (pos n) = omega arith
+sign-length (negsuc n) = omega arith
+
+pub signed-length : (z : ℤ) (last : ℕ) → length (signed-text z last) ≡ length (sign z) + length (number-text (natAbs z) last)
+unfolding signed-text
+signed-length z last = length-append (sign z) (number-text (natAbs z) last)
+
+pub signed-longest : (z : ℤ) (last : ℕ) → length (signed-text z last) ≤ longest-signed
+signed-longest z last = omega (arith, signed-length z last, sign-length z, number-longest (natAbs z) last)

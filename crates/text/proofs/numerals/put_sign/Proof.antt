@@ -1,0 +1,45 @@
+-- `numerals::put_sign` meets its contract.
+-- Assumes nothing.
+use mathlib.Core.Path.{_≡_, sym, ap, subst}
+use mathlib.Core.List.{List, [], _∷_}
+use Prim.Native.Nat.{ℕ}
+use native.Mathlib.Omega.{arith}
+use denote.Ref.{now}
+use lib.ListN.{length}
+use Rattle.text.specs.Decimal.{sign}
+use Rattle.text.proofs.Puts.{Put, put-nothing}
+use Rattle.text.proofs.Signs.{negative, plain}
+use borrow.Author.Needs.{needs}
+use Rattle.text.proofs.numerals.put_sign.Statement.{statement}
+use Rattle.text.proofs.numerals.put_sign.Tie as tie
+use Rattle.text.proofs.numerals.put_sign.Reads as reads
+use Rattle.text.proofs.numerals.put_sign.Lts as lts
+use Rattle.text.proofs.numerals.put_byte.Reads as put-byte-reads
+
+minus : (c : tie.Then1) → sign (c .before .before .args .z) ≡ 45 ∷ []
+minus c = negative (c .before .before .args .z) (c .before .before .fits .z) (c .if1 .taken) .minus
+
+-- src/numerals.rt:50:9
+put-byte-requires : tie.Need-put-byte-requires
+put-byte-requires c κs = omega (arith, c .before .before .before .pre, ap length (minus (c .before)))
+
+-- src/numerals.rt:50:9
+same-length : tie.Need-same-length
+same-length c = search needs
+
+-- src/numerals.rt:50:9
+returns : tie.Need-returns
+returns c =
+    let a = c .before .before .before .before .before .before .args in
+    let b = c .before .before .put-byte in
+    subst (λ (s : List ℕ). Put (now (a .out)) (a .at) s (b .result) (b .last .1 .0)) (sym (minus (c .before .before .before .before))) (b .ensures)
+
+-- src/numerals.rt:44:1
+returns-2 : tie.Need-returns-2
+returns-2 c =
+    let a = c .before .before .args in
+    let p = plain (a .z) (c .before .before .fits .z) (c .if1 .left) in
+    subst (λ (s : List ℕ). Put (now (a .out)) (a .at) s (a .at) (now (a .out))) (sym (p .bare)) (omega arith, sym (put-nothing (now (a .out)) (a .at)))
+
+pub put-sign-spec : {M : Type 1} → statement M
+put-sign-spec = tie.close (tie.spec put-byte-requires same-length returns returns-2)

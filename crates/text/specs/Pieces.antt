@@ -1,0 +1,21 @@
+-- A text that is handed out piece by piece, from a cursor that goes from call to call by value.
+use Prim.Native.Nat.{ℕ, _+_, _≤_}
+use mathlib.Core.Path.{_≡_}
+use mathlib.Core.List.{List, [], _∷_, _++_}
+use lib.ListN.{length}
+
+-- pieces one after the other
+abbrev pub join : List (List ℕ) → List ℕ
+join [] = []
+join (p ∷ ps) = p ++ join ps
+
+-- a call from the cursor c in a buffer of `room` bytes: the piece, and the cursor d past it. `to-come` is the text still to come from a
+-- cursor. Where the buffer had room for one line more, of at most w bytes, nothing is to come
+pub record Piece {C : Type 0} (to-come : C → List ℕ) (w : ℕ) (c d : C) (piece : List ℕ) (room : ℕ) : Type 0 where
+  pub joins : piece ++ to-come d ≡ to-come c
+  pub stops : length piece + w ≤ room → to-come d ≡ []
+
+-- calls one after the other, each from the cursor that the one before handed back, with any buffers
+pub data Pieces {C : Type 0} (to-come : C → List ℕ) (w : ℕ) : C → List (List ℕ) → C → Type 0 where
+  none : (c : C) → Pieces to-come w c [] c
+  more : (c d e : C) (p : List ℕ) (ps : List (List ℕ)) (room : ℕ) → Piece to-come w c d p room → Pieces to-come w d ps e → Pieces to-come w c (p ∷ ps) e
