@@ -1,5 +1,5 @@
 -- Laws of the ordered tests: how the first of them decides; and of what is granted. Assumes nothing.
-use mathlib.Core.Path.{_≡_, refl, sym, ap}
+use mathlib.Core.Path.{_≡_, refl, sym, ap, _∙_}
 use mathlib.Core.Bool.{Bool, true, false}
 use mathlib.Core.List.{List, [], _∷_}
 use Prim.Native.Nat.{ℕ}
@@ -37,21 +37,41 @@ module _ {A : Type 0} (after : Outcome A) (n : ℕ) (ts : List Test) {b : A} whe
   first-accepted true e = absurd (accepted-refused (sym e))
   first-accepted false e = (refl, e)
 
--- a test decides before others as it does alone
-module _ {A B : Type 0} (a : A) (after : Outcome B) (n : ℕ) (ts : List Test) where
-  pub alone-passes : (holds : Bool) {b : A} → first (record { number = n; holds = holds } ∷ []) (accepted a) ≡ accepted b
-      → first (record { number = n; holds = holds } ∷ ts) after ≡ first ts after
-  alone-passes holds e = first-passes after n ts (first-accepted (accepted a) n [] holds e .0)
-
-  pub alone-refuses : (holds : Bool) {k : ℕ} {vs : List ℕ} → first (record { number = n; holds = holds } ∷ []) (accepted a) ≡ refused k vs
-      → first (record { number = n; holds = holds } ∷ ts) after ≡ refused k vs
+-- tests decide before anything else as they do by themselves
+module _ {A B : Type 0} (a : A) (after : Outcome B) where
+  pub refused-before : (ts : List Test) {k : ℕ} {vs : List ℕ} → first ts (accepted a) ≡ refused k vs → first ts after ≡ refused k vs
   unfolding first
-  alone-refuses true e = ap again e
+  refused-before [] e = absurd (accepted-refused e)
+  refused-before (t ∷ ts) {k} {vs} e = go (t .holds) (refused-before ts) e
     where
       again : Outcome A → Outcome B
       again (accepted a) = after
       again (refused k vs) = refused k vs
-  alone-refuses false e = absurd (accepted-refused e)
+
+      go : (b : Bool) → (first ts (accepted a) ≡ refused k vs → first ts after ≡ refused k vs)
+          → _≡_ {A = Outcome A} (elim b [ true ↦ refused (t .number) [] | false ↦ first ts (accepted a) ]) (refused k vs)
+          → _≡_ {A = Outcome B} (elim b [ true ↦ refused (t .number) [] | false ↦ first ts after ]) (refused k vs)
+      go true more e = ap again e
+      go false more e = more e
+
+  pub passed-before : (ts : List Test) {b : A} → first ts (accepted a) ≡ accepted b → first ts after ≡ after
+  unfolding first
+  passed-before [] e = refl
+  passed-before (t ∷ ts) e =
+      let p = first-accepted (accepted a) (t .number) ts (t .holds) e in
+      first-passes after (t .number) ts (p .0) ∙ passed-before ts (p .1)
+
+-- and so does one test before others
+module _ {A B : Type 0} (a : A) (after : Outcome B) (n : ℕ) (ts : List Test) (holds : Bool) where
+  pub alone-passes : {b : A} → first (record { number = n; holds = holds } ∷ []) (accepted a) ≡ accepted b
+      → first (record { number = n; holds = holds } ∷ ts) after ≡ first ts after
+  unfolding first
+  alone-passes e = passed-before a (first ts after) (record { number = n; holds = holds } ∷ []) e
+
+  pub alone-refuses : {k : ℕ} {vs : List ℕ} → first (record { number = n; holds = holds } ∷ []) (accepted a) ≡ refused k vs
+      → first (record { number = n; holds = holds } ∷ ts) after ≡ refused k vs
+  unfolding first
+  alone-refuses e = refused-before a (first ts after) (record { number = n; holds = holds } ∷ []) e
 
 module _ {A B : Type 0} {o : Outcome A} (one other : B) where
   pub granted-accepted : {a : A} → o ≡ accepted a → granted o one other ≡ one

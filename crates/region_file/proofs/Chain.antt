@@ -1,0 +1,110 @@
+-- One link of the chain, by the cases of the code, and what an accepted link and an accepted file have.
+-- Assumes nothing.
+use mathlib.Core.Path.{_≡_, refl, sym, ap, _∙_}
+use mathlib.Core.Bool.{Bool, true, false, cond, not, _&&_, _||_, true≢false}
+use mathlib.Core.List.{List, [], _∷_}
+use mathlib.Core.Logic.{_⊎_, inl, inr}
+use Prim.Native.Nat.{ℕ, zero, suc, _%_, _/_, _≤_, _<_}
+use native.Mathlib.Nat.{lt-irrefl}
+use native.Mathlib.Omega.{arith}
+use lib.Dec.{eqb, leb, ltb}
+use lib.ListN.{length}
+use borrow.Author.Tests.{eq-eqb, ne-eqb, eqb-true, eqb-false, leb-false, ltb-false, not-false}
+use Rattle.refusal.specs.Outcome.{Outcome, accepted, refused, first}
+use Rattle.refusal.proofs.First.{first-none, first-accepted, refused-before, passed-before}
+use Rattle.plan.specs.Pair.{unknown-level}
+use Rattle.stage.specs.Region.{within, outside}
+use Rattle.region_file.specs.Fields.{record-at, first-record, level, zeros, records, most-records}
+use Rattle.region_file.specs.Judge.{whole, not-reserved, returning, too-many, link-tests, link-outcome, nowhere, also, chain, judge-outcome}
+
+-- a record that passes the tests of a link
+pub record Passed (limit : ℕ) (file : List ℕ) (seen : Bool) (n : ℕ) : Type 0 where
+  pub here : n < records file
+  pub fresh : seen ≡ false
+  pub inside : within (record-at file n .region) ≡ true
+  pub few : record-at file n .count ≤ limit
+
+module _ {A : Type 0} {after : Outcome A} {b : A} (limit : ℕ) (file : List ℕ) (seen : Bool) (n : ℕ) where
+  pub passed : first (link-tests limit file seen n) after ≡ accepted b → Passed limit file seen n × (after ≡ accepted b)
+  passed e =
+      let r = record-at file n in
+      let last = too-many limit r ∷ [] in
+      let later = outside (r .region) ∷ last in
+      let one = first-accepted after 13 (returning seen ∷ later) (leb (records file) n) e in
+      let two = first-accepted after 14 later seen (one .1) in
+      let three = first-accepted after 10 last (not (within (r .region))) (two .1) in
+      let four = first-accepted after 15 [] (ltb limit (r .count)) (three .1) in
+      (
+        record { here = leb-false (records file) n (one .0); fresh = two .0; inside = not-false _ (three .0); few = ltb-false limit (r .count) (four .0) },
+        sym (first-none after) ∙ four .1,
+      )
+
+module _ (limit : ℕ) (file : List ℕ) where
+  pub chain-end : (links : ℕ) (v : ℕ → Bool) (n : ℕ) → n ≡ 0 → chain limit file links v n ≡ accepted tt
+  unfolding chain
+  chain-end zero v n e = refl
+  chain-end (suc links) v n e = simp (eq-eqb n 0 e)
+
+  module _ (v : ℕ → Bool) (n : ℕ) (ne : n ≡ 0 → ⊥) where
+    pub chain-refused : (links : ℕ) → 0 < links → {k : ℕ} {vs : List ℕ} → link-outcome limit file (v n) n ≡ refused k vs
+        → chain limit file links v n ≡ refused k vs
+    unfolding chain
+    chain-refused zero p e = absurd (lt-irrefl 0 p)
+    chain-refused (suc links) p e = simp (ne-eqb n 0 ne) (refused-before tt (chain limit file links (also n v) (record-at file n .next)) (link-tests limit file (v n) n) e)
+
+    pub chain-next : (links : ℕ) → link-outcome limit file (v n) n ≡ accepted tt
+        → chain limit file (suc links) v n ≡ chain limit file links (also n v) (record-at file n .next)
+    unfolding chain
+    chain-next links e = simp (ne-eqb n 0 ne) (passed-before tt (chain limit file links (also n v) (record-at file n .next)) (link-tests limit file (v n) n) e)
+
+  -- an accepted chain has ended, or names a record that passes and goes on
+  pub record Linked (links : ℕ) (v : ℕ → Bool) (n : ℕ) : Type 0 where
+    pub some : n ≡ 0 → ⊥
+    pub link : Passed limit file (v n) n
+    pub rest : chain limit file links (also n v) (record-at file n .next) ≡ accepted tt
+
+  pub linked : (links : ℕ) (v : ℕ → Bool) (n : ℕ) → chain limit file (suc links) v n ≡ accepted tt → (n ≡ 0) ⊎ Linked links v n
+  unfolding chain
+  linked links v n h = go (eqb n 0) refl h
+    where
+      go : (z : Bool) → eqb n 0 ≡ z
+          → cond z (accepted tt) (first (link-tests limit file (v n) n) (chain limit file links (also n v) (record-at file n .next))) ≡ accepted tt
+          → (n ≡ 0) ⊎ Linked links v n
+      go true e h = inl (eqb-true n 0 e)
+      go false e h = let p = passed limit file (v n) n h in inr (record { some = eqb-false n 0 e; link = p .0; rest = p .1 })
+
+-- what a whole file has
+pub record Whole (bytes : ℕ) : Type 0 where
+  pub some : 0 < bytes
+  pub most : bytes ≤ 65536
+  pub even : bytes % 32 ≡ 0
+
+both : (a b : Bool) → (a && b) ≡ true → (a ≡ true) × (b ≡ true)
+both true b e = (refl, e)
+both false b e = absurd (true≢false (sym e))
+
+not-so : (b : Bool) → not b ≡ true → b ≡ false
+not-so false e = refl
+not-so true e = absurd (true≢false (sym e))
+
+pub whole-has : (bytes : ℕ) → whole bytes ≡ true → Whole bytes
+unfolding whole
+whole-has bytes e =
+    let one = both _ _ e in
+    let two = both _ _ (one .1) in
+    let some = eqb-false bytes 0 (not-so _ (one .0)) in
+    record { some = omega (arith, some); most = ltb-false 65536 bytes (not-so _ (two .0)); even = eqb-true (bytes % 32) 0 (two .1) }
+
+pub whole-few : (bytes : ℕ) → whole bytes ≡ true → bytes / 32 ≤ most-records
+whole-few bytes e = let m = whole-has bytes e .most in omega (arith, m)
+
+-- what an accepted file has
+pub judged-chain : (limit : ℕ) (file : List ℕ) → judge-outcome limit file ≡ accepted tt → chain limit file most-records nowhere (first-record file) ≡ accepted tt
+unfolding judge-outcome
+judged-chain limit file e =
+    let after = chain limit file most-records nowhere (first-record file) in
+    let last = not-reserved file ∷ [] in
+    let one = first-accepted after 11 (unknown-level (level file) ∷ last) (not (whole (length file))) e in
+    let two = first-accepted after 2 last (unknown-level (level file) .holds) (one .1) in
+    let three = first-accepted after 12 [] (not (zeros file 8 24)) (two .1) in
+    sym (first-none after) ∙ three .1

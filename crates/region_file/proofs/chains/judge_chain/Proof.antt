@@ -1,0 +1,170 @@
+-- `chains::judge_chain` meets its contract: the chain still to be judged, of as many links as records are free, decides.
+-- Assumes nothing.
+use mathlib.Core.Path.{_≡_, refl, sym, ap, ap₂, _∙_}
+use mathlib.Core.Bool.{Bool, true, false}
+use mathlib.Core.List.{List}
+use Prim.Native.Nat.{ℕ, _<_, _≤_, _^_}
+use native.Mathlib.Omega.{arith}
+use denote.Ref.{now}
+use lib.ListN.{length, getD, set, length-set, length-replicate}
+use lib.Seq.{getD-set-other}
+use borrow.Author.Needs.{needs}
+use Rattle.refusal.specs.Outcome.{Outcome, accepted}
+use Rattle.refusal.specs.Refusal.{of-judgement}
+use Rattle.region_file.specs.declared.fields.Record.{Record}
+use Rattle.region_file.specs.Fields.{first-record, records, most-records}
+use Rattle.region_file.specs.Judge.{link-outcome, nowhere, chain}
+use Rattle.region_file.proofs.Marks.{marked, free, free-fresh, fresh-at, marked-fresh, free-set, free-some, marked-set, unmarked}
+use Rattle.region_file.proofs.Chain.{passed, chain-end, chain-refused, chain-next}
+use Rattle.region_file.proofs.chains.judge_chain.Statement.{statement}
+use Rattle.region_file.proofs.chains.judge_chain.Tie as tie
+use Rattle.region_file.proofs.chains.judge_chain.Reads as reads
+use Rattle.region_file.proofs.chains.judge_chain.Lts as lts
+
+abbrev Inv-loop : tie.InvT-loop
+Inv-loop file limit marks₀ n₀ marks n =
+    (length marks ≡ most-records) × (getD marks 0 0 ≡ 0) × (n < 2 ^ 32)
+    × (chain limit file (free marks) (marked marks) n ≡ chain limit file most-records nowhere (first-record file))
+
+abbrev μ-loop : tie.MeasureT-loop
+μ-loop file limit marks₀ n₀ marks n = free marks
+
+-- what the tests of the link come to, by the marks
+told : (limit : ℕ) (file ms : List ℕ) (n : ℕ) (b : Bool) (o : Outcome Unit) → b ≡ marked ms n → o ≡ link-outcome limit file b n
+    → link-outcome limit file (marked ms n) n ≡ o
+told limit file ms n b o eb eo = sym (eo ∙ ap (λ (x : Bool). link-outcome limit file x n) eb)
+
+-- a link that passes names an unmarked record of the file
+record Taken (limit : ℕ) (file ms : List ℕ) (n : ℕ) : Type 0 where
+  pub here : n < length ms
+  pub clear : getD ms n 0 ≡ 0
+
+taken : (limit : ℕ) (file ms : List ℕ) (n : ℕ) → records file ≤ most-records → length ms ≡ most-records → link-outcome limit file (marked ms n) n ≡ accepted tt
+    → Taken limit file ms n
+taken limit file ms n few l h =
+    let p = passed limit file (marked ms n) n h .0 in
+    let o = p .here in
+    record { here = omega (arith, o); clear = unmarked ms n (p .fresh) }
+
+-- src/lib.rt:160:9
+first-record-requires : tie.Need-first-record-requires Inv-loop μ-loop
+first-record-requires c κs = search needs
+
+-- src/lib.rt:161:5
+loop-holds : tie.Need-loop-holds Inv-loop μ-loop
+loop-holds c =
+    let a = c .before .before .args in (
+      length-replicate {A = ℕ} 2048 0,
+      fresh-at 2048 0,
+      search needs,
+      ap₂ (λ (f : ℕ) (m : ℕ → Bool). chain (a .limit) (now (a .file)) f m (c .first-record .result)) (free-fresh 2048) (marked-fresh 2048)
+          ∙ ap (chain (a .limit) (now (a .file)) most-records nowhere) (c .first-record .ensures),
+    )
+
+-- src/lib.rt:162:18
+cast-at : tie.Need-cast-at Inv-loop μ-loop
+cast-at c = search needs
+
+-- src/lib.rt:163:30
+slice-aggregate-is-marked : tie.Need-slice-aggregate-is-marked Inv-loop μ-loop
+slice-aggregate-is-marked c = search needs
+
+-- src/lib.rt:163:13
+is-marked-requires : tie.Need-is-marked-requires Inv-loop μ-loop
+is-marked-requires c κs = search needs
+
+-- src/lib.rt:164:13
+judge-link-requires : tie.Need-judge-link-requires Inv-loop μ-loop
+judge-link-requires c κs = search needs
+
+-- src/lib.rt:165:32
+enum-known-judged : tie.Need-enum-known-judged Inv-loop μ-loop
+enum-known-judged c = search needs
+
+-- src/lib.rt:166:13
+returns : tie.Need-returns Inv-loop μ-loop
+unfolding marked
+returns c =
+    let a = c .before .before .before .before .before .before .before .before .before .before .args in
+    let i = c .before .before .before .before .before .before .before .loop in
+    let j = c .before .before .before .judge-link in
+    sym (chain-refused (a .limit) (now (a .file)) (marked (i .marks)) (i .n) (c .before .before .before .before .before .before .loop-test .taken) (free (i .marks)) (free-some (i .marks) (i .inv .0) (i .inv .1))
+    (told (a .limit) (now (a .file)) (i .marks) (i .n) (c .before .before .before .before .is-marked .result) (of-judgement (j .result)) (c .before .before .before .before .is-marked .ensures) (j .ensures) ∙ ap of-judgement (c .before .judged .given .1))) ∙ i .inv .3
+
+enum-told : tie.Need-enum-told Inv-loop μ-loop
+enum-told c = search needs
+
+-- src/lib.rt:168:9
+array-write-marks : tie.Need-array-write-marks Inv-loop μ-loop
+unfolding marked
+array-write-marks c =
+    let a = c .before .before .before .before .before .before .before .before .before .args in
+    let i = c .before .before .before .before .before .before .loop in
+    let j = c .before .before .judge-link in
+    let e = told (a .limit) (now (a .file)) (i .marks) (i .n) (c .before .before .before .is-marked .result) (of-judgement (j .result)) (c .before .before .before .is-marked .ensures) (j .ensures) ∙ ap of-judgement (c .enum-told .given .1) in
+    let t = taken (a .limit) (now (a .file)) (i .marks) (i .n) (c .before .before .before .before .before .before .before .before .before .pre) (i .inv .0) e in
+    omega (arith, t .here)
+
+-- src/lib.rt:169:13
+record-at-requires : tie.Need-record-at-requires Inv-loop μ-loop
+record-at-requires c κs = search needs
+
+-- src/lib.rt:161:5
+loop-less : tie.Need-loop-less Inv-loop μ-loop
+unfolding marked
+loop-less c =
+    let a = c .before .before .before .before .before .before .before .before .before .before .args in
+    let i = c .before .before .before .before .before .before .before .loop in
+    let j = c .before .before .before .judge-link in
+    let e = told (a .limit) (now (a .file)) (i .marks) (i .n) (c .before .before .before .before .is-marked .result) (of-judgement (j .result)) (c .before .before .before .before .is-marked .ensures) (j .ensures) ∙ ap of-judgement (c .before .enum-told .given .1) in
+    let t = taken (a .limit) (now (a .file)) (i .marks) (i .n) (c .before .before .before .before .before .before .before .before .before .before .pre) (i .inv .0) e in
+    omega (arith, free-set (i .marks) (i .n) (t .here) (t .clear))
+
+-- src/lib.rt:161:5
+loop-again : tie.Need-loop-again Inv-loop μ-loop
+unfolding marked
+loop-again c =
+    let a = c .before .before .before .before .before .before .before .before .before .before .args in
+    let i = c .before .before .before .before .before .before .before .loop in
+    let j = c .before .before .before .judge-link in
+    let e = told (a .limit) (now (a .file)) (i .marks) (i .n) (c .before .before .before .before .is-marked .result) (of-judgement (j .result)) (c .before .before .before .before .is-marked .ensures) (j .ensures) ∙ ap of-judgement (c .before .enum-told .given .1) in
+    let t = taken (a .limit) (now (a .file)) (i .marks) (i .n) (c .before .before .before .before .before .before .before .before .before .before .pre) (i .inv .0) e in
+    let v = marked (i .marks) in
+    let ne = c .before .before .before .before .before .before .loop-test .taken in
+    let q : _≡_ {A = ℕ} 0 (i .n) → ⊥ = (λ x. ne (sym x)) in (
+      length-set (i .marks) (i .n) 1 ∙ i .inv .0,
+      getD-set-other (i .marks) (i .n) 0 1 0 q ∙ i .inv .1,
+      search needs,
+      ap₂ (λ (m : ℕ → Bool) (k : ℕ). chain (a .limit) (now (a .file)) (free (set (i .marks) (i .n) 1)) m k) (marked-set (i .marks) (i .n) (t .here)) (ap (λ (x : Record). x .next) (c .record-at .ensures))
+          ∙ sym (chain-next (a .limit) (now (a .file)) v (i .n) ne (free (set (i .marks) (i .n) 1)) e)
+          ∙ ap (λ (f : ℕ). chain (a .limit) (now (a .file)) f v (i .n)) (sym (free-set (i .marks) (i .n) (t .here) (t .clear)))
+          ∙ i .inv .3,
+    )
+
+-- src/lib.rt:155:1
+returns-2 : tie.Need-returns-2 Inv-loop μ-loop
+returns-2 c =
+    let a = c .before .before .before .before .args in
+    let i = c .before .loop in
+    sym (chain-end (a .limit) (now (a .file)) (free (i .marks)) (marked (i .marks)) (i .n) (c .loop-test .left)) ∙ i .inv .3
+
+pub judge-chain-spec : {M : Type 1} → statement M
+judge-chain-spec =
+    tie.close
+    (tie.spec
+    Inv-loop
+    μ-loop
+    first-record-requires
+    loop-holds
+    cast-at
+    slice-aggregate-is-marked
+    is-marked-requires
+    judge-link-requires
+    enum-known-judged
+    returns
+    enum-told
+    array-write-marks
+    record-at-requires
+    loop-less
+    loop-again
+    returns-2)

@@ -1,0 +1,10 @@
+// The region file: records of 32 bytes, a chain of them, and the judgement of both. Every call takes any bytes.
+mod chains;
+mod fields;
+mod judging;
+
+pub use fields::Record;
+pub use fields::first_record;
+pub use fields::record_at;
+pub use fields::record_count;
+pub use judging::judge;
