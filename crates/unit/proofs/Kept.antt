@@ -13,9 +13,9 @@ use lib.Ieee.Fits.{down-pos}
 use lib.Ieee.Nearest.{div-same}
 use Rattle.linear.proofs.Cases.{lt-or-ge}
 use Rattle.net.specs.Sequence.{top}
-use Rattle.unit.specs.Quotient.{lower-single}
+use Rattle.unit.specs.Quotient.{leading-digits, lower-single}
 use Rattle.unit.specs.Theorem.{Places, Shortfall, InStrip}
-use Rattle.unit.proofs.Powers.{powers, rescale}
+use Rattle.unit.proofs.Powers.{powers, three-powers, rescale}
 use Rattle.unit.proofs.Leading.{zeros-lt, digits-lt, digits-ge}
 use Rattle.unit.proofs.Patterns.{positive-bits, pattern}
 
@@ -29,48 +29,43 @@ kept L v = v / 2 ^ cut L v * 2 ^ cut L v
 pub uncut : (v s : ℕ) → s ≡ 0 → v / 2 ^ s * 2 ^ s ≡ v
 uncut v s e = ap (λ (j : ℕ). v / 2 ^ j * 2 ^ j) e ∙ mul-one (v / 1) ∙ div-one v
 
--- the 24 digits in the unit of the single are the kept ones in parts of 2 ^ L: where digits are cut off, and where zeros are added
-scaled-cut : (L v z : ℕ) → 24 ≤ L → L ≤ 53 → z < L - 24
-    → v * 2 ^ z / 2 ^ (L - 24) * 2 ^ (125 - z) * 2 ^ L ≡ v / 2 ^ (L - 24 - z) * 2 ^ (L - 24 - z) * 2 ^ 149
-scaled-cut L v z least most few =
+-- the 24 digits of v in the unit of the single are the kept ones in parts of 2 ^ L
+abbrev Scaled : ℕ → ℕ → ℕ → Type 0
+Scaled L v z = v * 2 ^ z / 2 ^ (L - 24) * 2 ^ (125 - z) * 2 ^ L ≡ v / 2 ^ (L - 24 - z) * 2 ^ (L - 24 - z) * 2 ^ 149
+
+-- where digits are cut off
+scaled-cut : (L v z : ℕ) → L ≤ 53 → z < L - 24 → Scaled L v z
+scaled-cut L v z most few =
     let s = L - 24 - z in
     let q = v / 2 ^ s in
     let same : v * 2 ^ z * 2 ^ s ≡ v * 2 ^ (L - 24) = omega (arith, ap (λ (x : ℕ). v * x) (powers z s (L - 24) (omega arith))) in
     let digits : v * 2 ^ z / 2 ^ (L - 24) ≡ q = div-same (v * 2 ^ z) (2 ^ (L - 24)) v (2 ^ s) (pow-pos (L - 24)) (pow-pos s) same in
-    let units : 2 ^ (125 - z) * 2 ^ L ≡ 2 ^ s * 2 ^ 149 =
-    powers (125 - z) L (125 - z + L) refl ∙ sym (powers s 149 (125 - z + L) (omega arith)) in
-    ap (λ (x : ℕ). x * 2 ^ (125 - z) * 2 ^ L) digits ∙ exchange q (2 ^ (125 - z)) (2 ^ L) (2 ^ s) (2 ^ 149) units
+    let all : s + 149 ≡ 125 - z + L = omega arith in
+    ap (λ (x : ℕ). x * 2 ^ (125 - z) * 2 ^ L) digits
+    ∙ exchange q (2 ^ (125 - z)) (2 ^ L) (2 ^ s) (2 ^ 149) (powers (125 - z) L (125 - z + L) refl ∙ sym (powers s 149 (125 - z + L) all))
   where
     exchange : (q a b c d : ℕ) → a * b ≡ c * d → q * a * b ≡ q * c * d
     exchange q a b c d e = omega (arith, ap (λ (x : ℕ). q * x) e)
 
-scaled-whole : (L v z : ℕ) → 24 ≤ L → L ≤ 53 → L - 24 ≤ z → z < L → v * 2 ^ z / 2 ^ (L - 24) * 2 ^ (125 - z) * 2 ^ L ≡ v * 2 ^ 149
+-- where zeros are added
+scaled-whole : (L v z : ℕ) → 24 ≤ L → L ≤ 53 → L - 24 ≤ z → z < L → Scaled L v z
 scaled-whole L v z least most many below =
     let r = z - (L - 24) in
     let moved : v * 2 ^ z ≡ v * 2 ^ r * 2 ^ (L - 24) = omega (arith, ap (λ (x : ℕ). v * x) (powers r (L - 24) z (omega arith))) in
     let digits : v * 2 ^ z / 2 ^ (L - 24) ≡ v * 2 ^ r = ap (λ (x : ℕ). x / 2 ^ (L - 24)) moved ∙ shl-shr (v * 2 ^ r) (L - 24) in
-    let units : 2 ^ r * 2 ^ (125 - z) * 2 ^ L ≡ 2 ^ 149 =
-    ap (λ (x : ℕ). x * 2 ^ L) (powers r (125 - z) (r + (125 - z)) refl) ∙ powers (r + (125 - z)) L 149 (omega arith) in
-    ap (λ (x : ℕ). x * 2 ^ (125 - z) * 2 ^ L) digits ∙ together v (2 ^ r) (2 ^ (125 - z)) (2 ^ L) (2 ^ 149) units
+    let none : L - 24 - z ≡ 0 = omega arith in
+    ap (λ (x : ℕ). x * 2 ^ (125 - z) * 2 ^ L) digits
+    ∙ together v (2 ^ r) (2 ^ (125 - z)) (2 ^ L) (2 ^ 149) (three-powers r (125 - z) L 149 (omega arith))
+    ∙ ap (λ (x : ℕ). x * 2 ^ 149) (sym (uncut v (L - 24 - z) none))
   where
     together : (v a b c d : ℕ) → a * b * c ≡ d → v * a * b * c ≡ v * d
     together v a b c d e = omega (arith, ap (λ (x : ℕ). v * x) e)
 
-scaled : (L v : ℕ) → Places L → 0 < v → v < 2 ^ L
-    → v * 2 ^ leadingZeros L v / 2 ^ (L - 24) * 2 ^ (125 - leadingZeros L v) * 2 ^ L ≡ kept L v * 2 ^ 149
-scaled L v places positive below = ⊎-elim few many (lt-or-ge z (L - 24))
-  where
-    z : ℕ
-    z = leadingZeros L v
-
-    few : z < L - 24 → v * 2 ^ z / 2 ^ (L - 24) * 2 ^ (125 - z) * 2 ^ L ≡ kept L v * 2 ^ 149
-    few l = scaled-cut L v z (places .at-least) (places .at-most) l
-
-    many : L - 24 ≤ z → v * 2 ^ z / 2 ^ (L - 24) * 2 ^ (125 - z) * 2 ^ L ≡ kept L v * 2 ^ 149
-    many l =
-        let none : cut L v ≡ 0 = omega arith in
-        scaled-whole L v z (places .at-least) (places .at-most) l (zeros-lt L v positive below)
-        ∙ ap (λ (x : ℕ). x * 2 ^ 149) (sym (uncut v (cut L v) none))
+scaled : (L v z : ℕ) → Places L → z < L → Scaled L v z
+scaled L v z places below =
+    let least = places .at-least in
+    let most = places .at-most in
+    ⊎-elim (λ few. scaled-cut L v z most few) (λ many. scaled-whole L v z least most many below) (lt-or-ge z (L - 24))
 
 zero-value : (L : ℕ) → HasValue (lower-single L 0) false (kept L 0) (2 ^ L)
 unfolding ofBits
@@ -90,11 +85,11 @@ single-value {L} places {v} below = ⊎-elim none some (eq-zero-or-pos v)
     some positive =
         let least = places .at-least in
         let z = leadingZeros L v in
-        let t = v * 2 ^ z / 2 ^ (L - 24) in
+        let t = leading-digits L v in
         let field = pattern (125 - z) t (omega arith) (digits-ge L v positive below least) (digits-lt L v positive below least) in
         subst (λ (x : Float). HasValue x false (kept L v) (2 ^ L)) (sym (ap (ofBits binary32) (positive-bits L v positive) ∙ field))
         (rescale (odd 24 false t (125 - z) 149) false (t * 2 ^ (125 - z)) (2 ^ 149) (kept L v) (2 ^ L) (pow-pos 149)
-        (scaled L v places positive below) (odd-sign 24 false t (125 - z) 149))
+        (scaled L v z places (zeros-lt L v positive below)) (odd-sign 24 false t (125 - z) 149))
 
 pub shortfall : {L : ℕ} → Places L → {v : ℕ} → v < 2 ^ L → Shortfall L v (lower-single L v)
 shortfall {L} places {v} below = record {
@@ -122,8 +117,8 @@ kept-top : (L v n s : ℕ) → n ≤ L → s ≤ L - n → v / 2 ^ s * 2 ^ s * 2
 kept-top L v n s few less =
     let q = v / 2 ^ s in
     let r = L - n - s in
-    let same : q * 2 ^ s * 2 ^ n * 2 ^ r ≡ q * 2 ^ L =
-    omega (arith, ap (λ (x : ℕ). q * x * 2 ^ r) (powers s n (s + n) refl), ap (λ (x : ℕ). q * x) (powers (s + n) r L (omega arith))) in
+    let all : s + n + r ≡ L = omega arith in
+    let same : q * 2 ^ s * 2 ^ n * 2 ^ r ≡ q * 2 ^ L = omega (arith, ap (λ (x : ℕ). q * x) (three-powers s n r L all)) in
     div-same (q * 2 ^ s * 2 ^ n) (2 ^ L) q (2 ^ r) (pow-pos L) (pow-pos r) same
     ∙ shr-shr v s r ∙ ap (λ (j : ℕ). v / 2 ^ j) (omega arith)
 

@@ -18,7 +18,7 @@ use lib.Ieee.Order.{le-of-values}
 use Rattle.linear.proofs.Cases.{lt-or-ge}
 use Rattle.unit.specs.Quotient.{nearest-double, lower-bits, lower-single}
 use Rattle.unit.specs.Theorem.{Places, Largest}
-use Rattle.unit.proofs.Powers.{powers}
+use Rattle.unit.proofs.Powers.{powers, three-powers}
 use Rattle.unit.proofs.Leading.{leading-le}
 use Rattle.unit.proofs.Doubles.{double-value}
 use Rattle.unit.proofs.Kept.{cut, kept, uncut, single-value}
@@ -34,17 +34,16 @@ module _ (L v z m k : ℕ) (few : z < L - 24) (leading : 2 ^ (L - 1 - z) ≤ v) 
       let q : 2 ^ 23 ≤ v / 2 ^ s = le-div-iff-mul-le (pow-pos s) .1 (le-trans (le-of-eq (powers 23 s (L - 1 - z) (omega arith))) leading) in
       let least : 2 ^ 23 * 2 ^ s * 2 ^ (25 + z) ≤ v / 2 ^ s * 2 ^ s * 2 ^ k = mul-le-mul (mul-le-mul-right (2 ^ s) q) (pow-mono (omega arith)) in
       let most : m * 2 ^ L ≤ 2 ^ 24 * 2 ^ L = mul-le-mul-right (2 ^ L) (le-of-lt digits) in
-      let same : 2 ^ 24 * 2 ^ L ≡ 2 ^ 23 * 2 ^ s * 2 ^ (25 + z) =
-      powers 24 L (24 + L) refl ∙ sym (ap (λ (x : ℕ). x * 2 ^ (25 + z)) (powers 23 s (23 + s) refl) ∙ powers (23 + s) (25 + z) (24 + L) (omega arith)) in
-      le-trans most (le-trans (le-of-eq same) least)
+      let all : 23 + s + (25 + z) ≡ 24 + L = omega arith in
+      le-trans most (le-trans (le-of-eq (powers 24 L (24 + L) refl ∙ sym (three-powers 23 s (25 + z) (24 + L) all))) least)
 
   -- the unit is a multiple of what is kept
   coarse : k ≤ 24 + z → m * 2 ^ L ≤ v / 2 ^ (L - 24 - z) * 2 ^ (L - 24 - z) * 2 ^ k
   coarse l =
       let s = L - 24 - z in
       let r = 24 + z - k in
-      let same : m * 2 ^ L ≡ m * 2 ^ r * 2 ^ s * 2 ^ k =
-      sym (omega (arith, ap (λ (x : ℕ). m * x * 2 ^ k) (powers r s (r + s) refl), ap (λ (x : ℕ). m * x) (powers (r + s) k L (omega arith)))) in
+      let all : r + s + k ≡ L = omega arith in
+      let same : m * 2 ^ L ≡ m * 2 ^ r * 2 ^ s * 2 ^ k = sym (omega (arith, ap (λ (x : ℕ). m * x) (three-powers r s k L all))) in
       let part : m * 2 ^ r * 2 ^ s ≤ v = le-of-mul-le-mul-right (le-trans (le-of-eq (sym same)) below) (pow-pos k) in
       le-trans (le-of-eq same) (mul-le-mul-right (2 ^ k) (mul-le-mul-right (2 ^ s) (le-div-iff-mul-le (pow-pos s) .1 part)))
 
@@ -82,7 +81,10 @@ kept-bound L v m (negsuc k) below digits h =
 -- two that are not negative, by cross products
 cross : (m n : ℕ) (e g : ℤ) → T (le (fin false m e) (fin false n g)) → m * up e * down g ≤ n * up g * down e
 unfolding le
-cross m n e g t = go (m * up e * down g) (n * up g * down e) (ltb (m * up e * down g) (n * up g * down e)) (ltb→lt (m * up e * down g) (n * up g * down e)) t
+cross m n e g t =
+    let p = m * up e * down g in
+    let q = n * up g * down e in
+    go p q (ltb p q) (ltb→lt p q) t
   where
     go : (a b : ℕ) (l : Bool) → (T l → a < b) → T (l || (eqb a b && (true || eqb a 0))) → a ≤ b
     go a b true f t = le-of-lt (f tt)
@@ -141,8 +143,9 @@ single-largest {L} places {v} below =
     let d = nearest-double L v in
     let x-value = single-value places below in
     let d-value = double-value (places .at-most) below in
+    let less : kept L v * 2 ^ L ≤ v * 2 ^ L = mul-le-mul-right (2 ^ L) (div-mul-le-self v (2 ^ cut L v)) in
     record {
       held = ofBits-fits binary32 (lower-bits L v);
-      not-above = le-of-values x d (kept L v) (2 ^ L) v (2 ^ L) (pow-pos L) (pow-pos L) x-value d-value (mul-le-mul-right (2 ^ L) (div-mul-le-self v (2 ^ cut L v)));
+      not-above = le-of-values x d (kept L v) (2 ^ L) v (2 ^ L) (pow-pos L) (pow-pos L) x-value d-value less;
       none-between = λ u f t. none-between L v below u x d x-value d-value f t;
     }

@@ -1,10 +1,11 @@
 -- The leading digit of a number of L digits: the number moved up to it, and the 24 digits from it on. Assumes nothing.
 use mathlib.Core.Path.{_≡_, sym, ap, subst}
-use Prim.Native.Nat.{ℕ, suc, _+_, _-_, _*_, _/_, _^_, _≤_, _<_}
+use Prim.Native.Nat.{ℕ, suc, _+_, _-_, _*_, _^_, _≤_, _<_}
 use native.Mathlib.Nat.{le-trans, le-of-eq, mul-le-mul-right, le-div-iff-mul-le}
 use native.Mathlib.Omega.{arith}
 use lib.Count.{leadingZeros, leading-top}
 use lib.Pow.{pow-pos, shl-lt, shr-lt}
+use Rattle.unit.specs.Quotient.{leading-digits}
 use Rattle.unit.proofs.Powers.{powers}
 
 module _ (L v : ℕ) (positive : 0 < v) (below : v < 2 ^ L) where
@@ -34,12 +35,12 @@ module _ (L v : ℕ) (positive : 0 < v) (below : v < 2 ^ L) where
       le-trans (le-of-eq (sym (powers (L - 1 - z) z (L - 1) all))) (mul-le-mul-right (2 ^ z) leading-le)
 
   -- the 24 digits from the leading one on
-  pub digits-lt : 24 ≤ L → v * 2 ^ leadingZeros L v / 2 ^ (L - 24) < 2 ^ 24
+  pub digits-lt : 24 ≤ L → leading-digits L v < 2 ^ 24
   digits-lt least =
       let all : L ≡ 24 + (L - 24) = omega arith in
       shr-lt 24 (L - 24) (subst (λ (k : ℕ). v * 2 ^ leadingZeros L v < 2 ^ k) all moved-lt)
 
-  pub digits-ge : 24 ≤ L → 2 ^ 23 ≤ v * 2 ^ leadingZeros L v / 2 ^ (L - 24)
+  pub digits-ge : 24 ≤ L → 2 ^ 23 ≤ leading-digits L v
   digits-ge least =
       let all : 23 + (L - 24) ≡ L - 1 = omega arith in
       le-div-iff-mul-le (pow-pos (L - 24)) .1 (le-trans (le-of-eq (powers 23 (L - 24) (L - 1) all)) moved-ge)

@@ -10,13 +10,13 @@ use lib.Dec.{T, eqb, leb, lit<, lit≤}
 use lib.Count.{leadingZeros}
 use lib.Ieee.{nan, inf, binary32, odd, ofFields, ofBits, toBits, nanBits}
 use lib.Ieee.Bits.{nanBits-above, nanBits-is, toBits-ofBits}
-use Rattle.unit.specs.Quotient.{lower-bits, lower-single}
+use Rattle.unit.specs.Quotient.{leading-digits, lower-bits, lower-single}
 use Rattle.unit.proofs.Leading.{digits-lt}
 
-pub positive-bits : (L v : ℕ) → 0 < v → lower-bits L v ≡ (125 - leadingZeros L v) * 2 ^ 23 + v * 2 ^ leadingZeros L v / 2 ^ (L - 24)
+pub positive-bits : (L v : ℕ) → 0 < v → lower-bits L v ≡ (125 - leadingZeros L v) * 2 ^ 23 + leading-digits L v
 positive-bits L v positive =
     let other : v ≢ 0 = omega arith in
-    ap (λ (b : Bool). cond b 0 ((125 - leadingZeros L v) * 2 ^ 23 + v * 2 ^ leadingZeros L v / 2 ^ (L - 24))) (ne-eqb v 0 other)
+    ap (λ (b : Bool). cond b 0 ((125 - leadingZeros L v) * 2 ^ 23 + leading-digits L v)) (ne-eqb v 0 other)
 
 -- all are below the pattern of 1
 pub bits-lt : {L v : ℕ} → 24 ≤ L → v < 2 ^ L → lower-bits L v < 127 * 2 ^ 23
@@ -50,13 +50,14 @@ pub pattern : (k t : ℕ) → k ≤ 125 → 2 ^ 23 ≤ t → t < 2 ^ 24 → ofBi
 unfolding ofBits ofFields
 pattern k t small lo hi =
     let b = k * 8388608 + t in
+    let rest = t - 8388608 in
     let sign : leb 2147483648 b ≡ false = lt-leb 2147483648 b (omega arith) in
     let field : b % 2147483648 / 8388608 ≡ suc k = omega arith in
-    let rest : b % 8388608 ≡ t - 8388608 = omega arith in
+    let low : b % 8388608 ≡ rest = omega arith in
     let finite : suc k ≢ 255 = omega arith in
-    let again : 8388608 + (t - 8388608) ≡ t = omega arith in
+    let again : 8388608 + rest ≡ t = omega arith in
     ap (λ (s : Bool). ofFields binary32 s (b % 2147483648 / 8388608) (b % 8388608)) sign
     ∙ ap (λ (x : ℕ). ofFields binary32 false x (b % 8388608)) field
-    ∙ ap (λ (x : ℕ). ofFields binary32 false (suc k) x) rest
-    ∙ ap (λ (c : Bool). cond c (cond (eqb (t - 8388608) 0) (inf false) nan) (odd 24 false (8388608 + (t - 8388608)) k 149)) (ne-eqb (suc k) 255 finite)
+    ∙ ap (λ (x : ℕ). ofFields binary32 false (suc k) x) low
+    ∙ ap (λ (c : Bool). cond c (cond (eqb rest 0) (inf false) nan) (odd 24 false (8388608 + rest) k 149)) (ne-eqb (suc k) 255 finite)
     ∙ ap (λ (x : ℕ). odd 24 false x k 149) again

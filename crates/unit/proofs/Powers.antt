@@ -1,5 +1,5 @@
 -- Products of powers of two by their exponents, and a value as another fraction. Assumes nothing.
-use mathlib.Core.Path.{_≡_, sym, ap, _∙_}
+use mathlib.Core.Path.{_≡_, refl, sym, ap, _∙_}
 use mathlib.Core.Bool.{Bool}
 use Prim.Native.Nat.{ℕ, _+_, _*_, _^_, _<_}
 use native.Mathlib.Nat.{mul-right-comm, eq-of-mul-eq-mul-right}
@@ -9,6 +9,9 @@ use lib.Ieee.Exact.{HasValue}
 
 pub powers : (i j k : ℕ) → i + j ≡ k → 2 ^ i * 2 ^ j ≡ 2 ^ k
 powers i j k e = sym (pow-add 2 i j) ∙ ap (λ (n : ℕ). 2 ^ n) e
+
+pub three-powers : (i j k l : ℕ) → i + j + k ≡ l → 2 ^ i * 2 ^ j * 2 ^ k ≡ 2 ^ l
+three-powers i j k l e = ap (λ (n : ℕ). n * 2 ^ k) (powers i j (i + j) refl) ∙ powers (i + j) k l e
 
 -- a * d = b * c: a / c is b / d
 pub rescale : (x : Float) (s : Bool) (a c b d : ℕ) → 0 < c → a * d ≡ b * c → HasValue x s a c → HasValue x s b d

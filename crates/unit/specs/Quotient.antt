@@ -9,10 +9,14 @@ use lib.Ieee.{Float, binary32, binary64, round, ofBits}
 abbrev pub nearest-double : ℕ → ℕ → Float
 nearest-double L v = round binary64 false v (2 ^ L)
 
--- The bits of the largest single not above v / 2 ^ L (Theorem: `largest`). With z leading zeros among the L digits of v, the 24 digits
--- from the leading one on are kept. They are added to an exponent's field of 125 - z, which the leading one makes 126 - z.
+-- the 24 digits of v from the leading one on, which follows z leading zeros among L digits; the digits after them are cut off
+abbrev pub leading-digits : ℕ → ℕ → ℕ
+leading-digits L v = v * 2 ^ leadingZeros L v / 2 ^ (L - 24)
+
+-- The bits of the largest single not above v / 2 ^ L (Theorem: `largest`): 0 for 0, and else these digits, added to an exponent's field of
+-- 125 - z. The leading one, which a single does not store, makes the field 126 - z.
 abbrev pub lower-bits : ℕ → ℕ → ℕ
-lower-bits L v = cond (eqb v 0) 0 ((125 - leadingZeros L v) * 2 ^ 23 + v * 2 ^ leadingZeros L v / 2 ^ (L - 24))
+lower-bits L v = cond (eqb v 0) 0 ((125 - leadingZeros L v) * 2 ^ 23 + leading-digits L v)
 
 abbrev pub lower-single : ℕ → ℕ → Float
 lower-single L v = ofBits binary32 (lower-bits L v)

@@ -47,6 +47,7 @@ fn single_bits(word: u32) -> u32
         return 0;
     }
     let z = u32::leading_zeros(word);
-    let kept = (word << z) >> 8;
+    let moved = word << z;
+    let kept = moved >> 8;
     (125 - z) * 8388608 + kept
 }

@@ -10,8 +10,8 @@ use Rattle.unit.proofs.numbers.single_bits.Tie as tie
 returns : tie.Need-returns
 returns c = simp (eq-eqb _ _ (c .if1 .taken))
 
-shl-kept : tie.Need-shl-kept
-shl-kept c = zeros-lt 32 (c .before .args .word) (omega arith) (c .before .fits .word .fits)
+shl-moved : tie.Need-shl-moved
+shl-moved c = zeros-lt 32 (c .before .args .word) (omega arith) (c .before .fits .word .fits)
 
 sub-result : tie.Need-sub-result
 sub-result c = omega (arith, zeros-lt 32 (c .before .args .word) (omega arith) (c .before .fits .word .fits))
@@ -28,4 +28,4 @@ returns-2 c =
     simp (ne-eqb _ _ (c .if1 .left), mod-eq-of-lt (moved-lt 32 (c .before .args .word) (omega arith) fits))
 
 pub single-bits-spec : {M : Type 1} → statement M
-single-bits-spec = tie.close (tie.spec returns shl-kept sub-result mul-result add-result returns-2)
+single-bits-spec = tie.close (tie.spec returns shl-moved sub-result mul-result add-result returns-2)
