@@ -16,7 +16,7 @@ use Rattle.unit.specs.Quotient.{nearest-double, lower-single}
 use Rattle.unit.specs.Word.{numerator, places, double, single}
 use Rattle.unit.specs.Singles.{visit-singles}
 use Rattle.unit.specs.Theorem.{Places, InStrip, Rounded, Theorems}
-use Rattle.unit.proofs.Patterns.{bits-written}
+use Rattle.unit.proofs.Patterns.{field-is, bits-written}
 use Rattle.unit.proofs.Doubles.{double-value}
 use Rattle.unit.proofs.Kept as K
 use Rattle.unit.proofs.Largest.{single-largest}
@@ -54,6 +54,7 @@ theorems = record {
   shortfall = λ w below. of-word w below .shortfall;
   strip = strip;
   bits = λ w below. bits-written (enough-places .at-least) (numerator-lt w below);
+  field = λ w below positive. field-is enough-places positive (numerator-lt w below);
   zero-bits = bits-written (enough-places .at-least) (numerator-lt 0 (lit< tt));
   zero = zero;
   steps = steps;

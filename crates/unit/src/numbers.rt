@@ -24,7 +24,7 @@ pub fn coordinate(word: u32, precision: Precision) -> Unit
     }
 }
 
-// The word divided by 2^32: neither the conversion nor the division loses anything.
+// The word divided by 2^32. Neither the conversion nor the division loses anything.
 pub fn double(word: u32) -> f64
     ensures { λ r. ⌜ r ≡ double word ⌝ }
 {
