@@ -1,5 +1,7 @@
 -- The one proof of the table of known points: the definitions compute them. Assumes nothing.
 use mathlib.Core.Path.{_≡_, refl, sym, ap, subst}
+use lib.Count.{leadingZeros}
+use lib.Ieee.{ofBits, toBits}
 use Rattle.digits.specs.Digits.{digitwise, plus, times}
 use Rattle.digits.proofs.Two.{one-lt-two}
 use Rattle.linear.specs.Matrix.{sum, skip, det}
@@ -20,8 +22,8 @@ fast = of-matrices (iterated 2 32 32)
 
 computed : All fast table
 unfolding fast iterate add-down digitwise plus times sum skip det product matrix search least-index first-a first-m check
-    visit-index locate first granted
-computed = (refl, (refl, (refl, (refl, (refl, (refl, (refl, (refl, (refl, tt)))))))))
+    visit-index locate first granted leadingZeros ofBits toBits
+computed = (refl, (refl, (refl, (refl, (refl, (refl, (refl, (refl, (refl, (refl, (refl, tt)))))))))))
 
 pub known : KnownPoints
 unfolding fast

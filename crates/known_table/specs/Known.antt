@@ -1,15 +1,16 @@
--- The known points of 01 that are marked (P): one table, and what an entry of it says of the definitions that the contracts cite. The two
--- singles among them join the table with the unit numbers.
+-- The known points of 01 that are marked (P): one table, and what an entry of it says of the definitions that the contracts cite.
 use mathlib.Core.Path.{_≡_}
 use mathlib.Core.List.{List, [], _∷_}
 use Prim.Native.Nat.{ℕ}
 use lib.ListN.{replicate}
+use lib.Ieee.{binary32, toBits}
 use Rattle.net.specs.Sequence.{point}
 use Rattle.refusal.specs.Outcome.{accepted, not-net}
 use Rattle.plan.specs.declared.pair.Plan.{Plan}
 use Rattle.plan.specs.declared.pair.Shift.{Shift}
 use Rattle.plan.specs.Pair.{sequence, standard-pair, largest-level}
 use Rattle.stratify.specs.Answers.{check-outcome, query-outcome}
+use Rattle.unit.specs.Word.{single}
 
 pub data Known : Type 0 where
   -- the standard pair without shift: the point of index i
@@ -18,6 +19,8 @@ pub data Known : Type 0 where
   index-in : (s m a c r k i : ℕ) → Known
   -- a pair of 64 equal words, checked to a level: 3 with the shape (m, a) and j
   refused-at : (word level m a j : ℕ) → Known
+  -- the bits of the single of a word
+  single-of : (word bits : ℕ) → Known
 
 abbrev pub shift-by : ℕ → Shift
 shift-by s = record { x = s; y = 0 }
@@ -27,6 +30,7 @@ abbrev pub Holds : Plan → Known → Type 0
 Holds P (point-at i x y) = point (sequence P (shift-by 0)) i ≡ (x, y)
 Holds P (index-in s m a c r k i) = query-outcome P (shift-by s) largest-level m a k c r ≡ accepted i
 Holds P (refused-at word level m a j) = check-outcome (replicate 64 word) level ≡ not-net m a j
+Holds P (single-of word bits) = toBits binary32 (single word) ≡ bits
 
 abbrev pub All : Plan → List Known → Type 0
 All P [] = Unit
@@ -43,6 +47,8 @@ table =
     ∷ index-in 0 2 1 1 0 1 5
     ∷ index-in 0x80000000 2 1 1 0 0 0
     ∷ refused-at 0 1 1 0 1
+    ∷ single-of 1 0x2F800000
+    ∷ single-of 0xFFFFFFFF 0x3F7FFFFF
     ∷ []
 
 -- every entry holds of the standard pair

@@ -1,0 +1,46 @@
+-- The leading digit of a number of L digits: the number moved up to it, and the 24 digits from it on. Assumes nothing.
+use mathlib.Core.Path.{_≡_, sym, ap, subst}
+use Prim.Native.Nat.{ℕ, suc, _+_, _-_, _*_, _^_, _≤_, _<_}
+use native.Mathlib.Nat.{le-trans, le-of-eq, mul-le-mul-right, le-div-iff-mul-le}
+use native.Mathlib.Omega.{arith}
+use lib.Count.{leadingZeros, leading-top}
+use lib.Pow.{pow-pos, shl-lt, shr-lt}
+use Rattle.unit.specs.Quotient.{leading-digits}
+use Rattle.unit.proofs.Powers.{powers}
+
+module _ (L v : ℕ) (positive : 0 < v) (below : v < 2 ^ L) where
+  pub zeros-lt : leadingZeros L v < L
+  zeros-lt = let top = leading-top L v positive below in omega (arith, top .1)
+
+  -- the weight of the leading digit
+  pub leading-le : 2 ^ (L - 1 - leadingZeros L v) ≤ v
+  leading-le =
+      let top = leading-top L v positive below in
+      let place : L - 1 - leadingZeros L v ≡ top .0 = omega (arith, top .1) in
+      le-trans (le-of-eq (ap (λ (j : ℕ). 2 ^ j) place)) (top .2)
+
+  -- moved up to its leading digit the number still has L digits, and the highest is not 0
+  pub moved-lt : v * 2 ^ leadingZeros L v < 2 ^ L
+  moved-lt =
+      let z = leadingZeros L v in
+      let top = leading-top L v positive below in
+      let all : suc (top .0) + z ≡ L = omega (arith, top .1) in
+      subst (λ (k : ℕ). v * 2 ^ z < 2 ^ k) all (shl-lt (suc (top .0)) z (top .3))
+
+  moved-ge : 2 ^ (L - 1) ≤ v * 2 ^ leadingZeros L v
+  moved-ge =
+      let z = leadingZeros L v in
+      let few = zeros-lt in
+      let all : L - 1 - z + z ≡ L - 1 = omega arith in
+      le-trans (le-of-eq (sym (powers (L - 1 - z) z (L - 1) all))) (mul-le-mul-right (2 ^ z) leading-le)
+
+  -- the 24 digits from the leading one on
+  pub digits-lt : 24 ≤ L → leading-digits L v < 2 ^ 24
+  digits-lt least =
+      let all : L ≡ 24 + (L - 24) = omega arith in
+      shr-lt 24 (L - 24) (subst (λ (k : ℕ). v * 2 ^ leadingZeros L v < 2 ^ k) all moved-lt)
+
+  pub digits-ge : 24 ≤ L → 2 ^ 23 ≤ leading-digits L v
+  digits-ge least =
+      let all : 23 + (L - 24) ≡ L - 1 = omega arith in
+      le-div-iff-mul-le (pow-pos (L - 24)) .1 (le-trans (le-of-eq (powers 23 (L - 24) (L - 1) all)) moved-ge)

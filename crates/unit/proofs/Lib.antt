@@ -1,0 +1,10 @@
+pub mod Powers
+pub mod Leading
+pub mod Patterns
+pub mod Doubles
+pub mod Kept
+pub mod Largest
+pub mod Numerator
+pub mod Theorem
+pub mod Mapped
+pub mod Examples

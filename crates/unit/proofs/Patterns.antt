@@ -1,0 +1,76 @@
+-- The bits of the single: they are no NaN's, the single has them, and what their fields say. Assumes nothing.
+use mathlib.Core.Path.{_≡_, sym, ap, _∙_, subst}
+use mathlib.Core.Logic.{⊎-elim, _≢_}
+use mathlib.Core.Bool.{Bool, false, cond, not}
+use Prim.Native.Nat.{ℕ, suc, _+_, _-_, _*_, _/_, _%_, _^_, _≤_, _<_}
+use native.Mathlib.Nat.{lt-of-lt-of-le, eq-zero-or-pos}
+use native.Mathlib.Omega.{arith}
+use borrow.Author.Tests.{ne-eqb, le-ltb, lt-leb}
+use lib.Dec.{T, eqb, leb, lit<, lit≤}
+use lib.Count.{leadingZeros}
+use lib.Ieee.{nan, inf, binary32, odd, ofFields, ofBits, toBits, nanBits}
+use lib.Ieee.Bits.{nanBits-above, nanBits-is, toBits-ofBits}
+use Rattle.unit.specs.Quotient.{leading-digits, lower-bits, lower-single}
+use Rattle.unit.specs.Theorem.{Places}
+use Rattle.unit.proofs.Leading.{zeros-lt, digits-lt, digits-ge}
+
+pub positive-bits : (L v : ℕ) → 0 < v → lower-bits L v ≡ (125 - leadingZeros L v) * 2 ^ 23 + leading-digits L v
+positive-bits L v positive =
+    let other : v ≢ 0 = omega arith in
+    ap (λ (b : Bool). cond b 0 ((125 - leadingZeros L v) * 2 ^ 23 + leading-digits L v)) (ne-eqb v 0 other)
+
+-- the exponent's field
+pub field-is : {L v : ℕ} → Places L → 0 < v → v < 2 ^ L → lower-bits L v / 2 ^ 23 ≡ 126 - leadingZeros L v
+field-is {L} {v} places positive below =
+    let most = places .at-most in
+    let few = zeros-lt L v positive below in
+    let lo = digits-ge L v positive below (places .at-least) in
+    let hi = digits-lt L v positive below (places .at-least) in
+    ap (λ (n : ℕ). n / 2 ^ 23) (positive-bits L v positive) ∙ carried (leadingZeros L v) (leading-digits L v) (omega arith) lo hi
+  where
+    carried : (z t : ℕ) → z ≤ 125 → 2 ^ 23 ≤ t → t < 2 ^ 24 → ((125 - z) * 2 ^ 23 + t) / 2 ^ 23 ≡ 126 - z
+    carried z t small lo hi = omega arith
+
+-- all are below the pattern of 1
+pub bits-lt : {L v : ℕ} → 24 ≤ L → v < 2 ^ L → lower-bits L v < 127 * 2 ^ 23
+bits-lt {L} {v} least below = ⊎-elim none some (eq-zero-or-pos v)
+  where
+    none : v ≡ 0 → lower-bits L v < 127 * 2 ^ 23
+    none e = subst (λ (n : ℕ). lower-bits L n < 127 * 2 ^ 23) (sym e) (lit< tt)
+
+    some : 0 < v → lower-bits L v < 127 * 2 ^ 23
+    some positive =
+        let digits = digits-lt L v positive below least in
+        subst (λ (n : ℕ). n < 127 * 2 ^ 23) (sym (positive-bits L v positive)) (omega arith)
+
+pub not-nan : {L v : ℕ} → 24 ≤ L → v < 2 ^ L → T (not (nanBits binary32 (lower-bits L v)))
+not-nan {L} {v} least below =
+    let n = lower-bits L v in
+    let small = bits-lt least below in
+    subst (λ (b : Bool). T (not b)) (sym (nanBits-above binary32 n ∙ le-ltb (255 * 2 ^ 23) (n % 2 ^ 31) (bound n small))) tt
+  where
+    bound : (n : ℕ) → n < 127 * 2 ^ 23 → n % 2 ^ 31 ≤ 255 * 2 ^ 23
+    bound n small = omega arith
+
+pub bits-written : {L v : ℕ} → 24 ≤ L → v < 2 ^ L → toBits binary32 (lower-single L v) ≡ lower-bits L v
+bits-written {L} {v} least below =
+    let n = lower-bits L v in
+    toBits-ofBits binary32 n (lt-of-lt-of-le (bits-lt least below) (lit≤ tt))
+    (subst (λ (b : Bool). T (not b)) (nanBits-is binary32 n) (not-nan least below))
+
+-- the value of 24 digits t, the highest not 0, that are added to the field k of the exponent
+pub pattern : (k t : ℕ) → k ≤ 125 → 2 ^ 23 ≤ t → t < 2 ^ 24 → ofBits binary32 (k * 2 ^ 23 + t) ≡ odd 24 false t k 149
+unfolding ofBits ofFields
+pattern k t small lo hi =
+    let b = k * 8388608 + t in
+    let rest = t - 8388608 in
+    let sign : leb 2147483648 b ≡ false = lt-leb 2147483648 b (omega arith) in
+    let field : b % 2147483648 / 8388608 ≡ suc k = omega arith in
+    let low : b % 8388608 ≡ rest = omega arith in
+    let finite : suc k ≢ 255 = omega arith in
+    let again : 8388608 + rest ≡ t = omega arith in
+    ap (λ (s : Bool). ofFields binary32 s (b % 2147483648 / 8388608) (b % 8388608)) sign
+    ∙ ap (λ (x : ℕ). ofFields binary32 false x (b % 8388608)) field
+    ∙ ap (λ (x : ℕ). ofFields binary32 false (suc k) x) low
+    ∙ ap (λ (c : Bool). cond c (cond (eqb rest 0) (inf false) nan) (odd 24 false (8388608 + rest) k 149)) (ne-eqb (suc k) 255 finite)
+    ∙ ap (λ (x : ℕ). odd 24 false x k 149) again

@@ -1,0 +1,4 @@
+pub mod Quotient
+pub mod Word
+pub mod Singles
+pub mod Theorem
