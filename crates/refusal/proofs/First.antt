@@ -4,7 +4,7 @@ use mathlib.Core.Bool.{Bool, true, false}
 use mathlib.Core.List.{List, [], _∷_}
 use Prim.Native.Nat.{ℕ}
 use native.Mathlib.Omega.{arith}
-use Rattle.refusal.specs.Outcome.{Outcome, accepted, refused, Test, first, granted}
+use Rattle.refusal.specs.Outcome.{Outcome, accepted, refused, Test, first, granted, then}
 
 module _ {A : Type 0} (after : Outcome A) where
   pub first-none : first [] after ≡ after
@@ -81,3 +81,12 @@ module _ {A B : Type 0} {o : Outcome A} (one other : B) where
   pub granted-refused : {n : ℕ} {vs : List ℕ} → o ≡ refused n vs → granted o one other ≡ other
   unfolding granted
   granted-refused e = ap (λ (p : Outcome A). granted p one other) e
+
+module _ {A B : Type 0} {o : Outcome A} (after : Outcome B) where
+  pub then-accepted : {a : A} → o ≡ accepted a → then o after ≡ after
+  unfolding then
+  then-accepted e = ap (λ (p : Outcome A). then p after) e
+
+  pub then-refused : {n : ℕ} {vs : List ℕ} → o ≡ refused n vs → then o after ≡ refused n vs
+  unfolding then
+  then-refused e = ap (λ (p : Outcome A). then p after) e

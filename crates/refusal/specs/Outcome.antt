@@ -26,3 +26,8 @@ first (t ∷ ts) after = elim (t .holds) [ true ↦ refused (t .number) [] | fal
 unfoldable pub granted : {A B : Type 0} → Outcome A → B → B → B
 granted (accepted a) one other = one
 granted (refused n vs) one other = other
+
+-- what comes after a call that is accepted; a refusal stands
+unfoldable pub then : {A B : Type 0} → Outcome A → Outcome B → Outcome B
+then (accepted a) after = after
+then (refused n vs) after = refused n vs

@@ -1,0 +1,83 @@
+-- The visits still to come from a place, whatever its fields and the file.
+use Prim.Native.Nat.{ℕ, zero, suc, _+_, _-_, _<_}
+use mathlib.Core.Path.{_≡_}
+use mathlib.Core.Bool.{Bool, cond, not, _&&_}
+use mathlib.Core.Logic.{_⊎_}
+use mathlib.Core.List.{List, [], _∷_, _++_}
+use lib.Dec.{eqb, leb}
+use lib.IntN.{pos}
+use Rattle.refusal.specs.Outcome.{Outcome, accepted, first}
+use Rattle.refusal.specs.Refusal.{of-refusal}
+use Rattle.stage.specs.declared.regions.Position.{Position}
+use Rattle.stage.specs.Region.{within, outside}
+use Rattle.region_file.specs.declared.fields.Record.{Record}
+use Rattle.region_file.specs.Fields.{records}
+use Rattle.visits.specs.declared.place.Visit.{Visit}
+use Rattle.visits.specs.declared.place.Place.{Place}
+use Rattle.visits.specs.declared.place.Step.{Step}
+use Rattle.visits.specs.declared.place.Step.the-variants as step
+use Rattle.visits.specs.declared.place.Stepped.{Stepped}
+use Rattle.visits.specs.declared.place.Opened.{Opened}
+use Rattle.visits.specs.declared.place.Opened.the-variants as opened
+use Rattle.visits.specs.Visits.{planned, position-of, visit, run}
+
+-- a number that names a record of the file whose region lies within its limits
+unfoldable pub listable : List ℕ → ℕ → Bool
+listable file n = not (eqb n 0) && (not (leb (records file) n) && within (planned file n .region))
+
+-- the visits of the chain from the number n on, over at most so many records, up to a number that cannot be listed
+unfoldable pub from : List ℕ → ℕ → ℕ → List Visit
+from file zero n = []
+from file (suc links) n =
+    cond (listable file n) (run n (planned file n) 0 (planned file n .count) ++ from file links (planned file n .next)) []
+
+-- the visits still to come: those left of the place's own record, and then the chain from the next number on
+unfoldable pub to-come : List ℕ → Place → List Visit
+to-come file p =
+    let r = p .planned in
+    cond (within (r .region)) (run (p .number) r (p .index) (r .count - p .index) ++ from file (p .links) (r .next)) []
+
+-- what a step gives: the first visit to come and the place past it, or that none is to come
+abbrev pub Gives : List ℕ → Place → Step → Place → Type 0
+Gives file p (step.Visited v) q = to-come file p ≡ v ∷ to-come file q
+Gives file p step.Ended q = (to-come file p ≡ []) × (to-come file q ≡ [])
+
+-- an opened file by the visits that are to come
+abbrev pub of-opened : List ℕ → Opened → Outcome (List Visit)
+of-opened file (opened.Open p) = accepted (to-come file p)
+of-opened file (opened.Refused why) = of-refusal why
+
+-- ---- inner promises
+
+-- a place behind a record without visits, from which the chain goes on at the number `next`
+abbrev pub leading-to : ℕ → ℕ → Place
+leading-to next links = record {
+  number = 0;
+  planned = record {
+    next = next;
+    region = record { left = pos 0; top = pos 0; width = 1; height = 1 };
+    shift = record { x = 0; y = 0 };
+    count = 0;
+  };
+  index = 0;
+  links = links;
+}
+
+-- where the visit with index i of a record lies, or 10
+abbrev pub position-outcome : Record → ℕ → Outcome Position
+position-outcome r i = first (outside (r .region) ∷ []) (accepted (position-of r i))
+
+-- the visit at a place, if there is one
+abbrev pub past : Place → Place
+past p = record { number = p .number; planned = p .planned; index = p .index + 1; links = p .links }
+
+unfoldable pub here : Place → Stepped
+here p =
+    cond (not (leb (p .planned .count) (p .index)) && within (p .planned .region))
+    (record { step = step.Visited (visit (p .number) (p .planned) (p .index)); place = past p })
+    (record { step = step.Ended; place = p })
+
+-- a place from which the visits of the chain from a number on are to come: it has a visit, or none is to come
+pub record Found (file : List ℕ) (n links : ℕ) (p : Place) : Type 0 where
+  pub same : to-come file p ≡ from file links n
+  pub ready : (p .index < p .planned .count) ⊎ (to-come file p ≡ [])

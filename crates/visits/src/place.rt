@@ -1,0 +1,120 @@
+// A place in a file, and the steps from it.
+use crate::chain::found;
+use crate::chain::leading_to;
+use plan::Plan;
+use refusal::Judgement;
+use refusal::Refusal;
+use region_file::Record;
+use stage::Placed;
+ghost use mathlib.Core.Path.{_≡_};
+ghost use Rattle.visits.specs.Visits.{visits-outcome};
+ghost use Rattle.stage.specs.Region.{of-placed};
+ghost use Rattle.visits.specs.Place.{position-outcome, here, Gives, of-opened};
+
+// The number of the record, an index in it, and the position in µm.
+pub struct Visit {
+    pub number: u32,
+    pub index: u32,
+    pub x: i32,
+    pub y: i32,
+}
+
+// A cursor over the visits of a file: the record with its number, the next index in it, and how many records may follow.
+pub struct Place {
+    pub number: u32,
+    pub planned: Record,
+    pub index: u32,
+    pub links: u32,
+}
+
+pub enum Step {
+    Visited(Visit),
+    Ended,
+}
+
+pub struct Stepped {
+    pub step: Step,
+    pub place: Place,
+}
+
+pub enum Opened {
+    Open(Place),
+    Refused(Refusal),
+}
+
+// Where the visit with an index of a record lies, or 10.
+fn position_of(planned: Record, index: u32) -> Placed
+    ensures { λ r. ⌜ of-placed r ≡ position-outcome planned index ⌝ }
+{
+    let region = planned.region;
+    let point = Plan::standard_point(planned.shift, index);
+    region.position(point.x, point.y)
+}
+
+// The visit at a place, if there is one, with the place past it.
+fn here(place: Place) -> Stepped
+    ensures { λ r. ⌜ r ≡ here place ⌝ }
+{
+    let number = place.number;
+    let planned = place.planned;
+    let index = place.index;
+    let links = place.links;
+    if planned.count <= index {
+        return Stepped {
+            step: Step::Ended,
+            place,
+        };
+    }
+    let placed = position_of(planned, index);
+    match placed {
+        Placed::Refused(_) => Stepped {
+            step: Step::Ended,
+            place,
+        },
+        Placed::At(at) => Stepped {
+            step: Step::Visited(Visit {
+                number,
+                index,
+                x: at.x,
+                y: at.y,
+            }),
+            place: Place {
+                number,
+                planned,
+                index: index + 1,
+                links,
+            },
+        },
+    }
+}
+
+impl Place {
+    // The place before a file's first visit, or the file's refusal.
+    pub fn open(file: &[u8]) -> Opened
+        ensures { λ r. ⌜ of-opened (now (file .entry)) r ≡ visits-outcome (now (file .entry)) ⌝ }
+    {
+        let judged = region_file::judge(file);
+        match judged {
+            Judgement::Refused(why) => Opened::Refused(why),
+            Judgement::Accepted => Opened::Open(leading_to(region_file::first_record(file), 2048)),
+        }
+    }
+
+    // The next visit and the place past it, whatever the file and the place.
+    pub fn step(self, file: &[u8]) -> Stepped
+        ensures { λ r. ⌜ Gives (now (file .entry)) self (r .step) (r .place) ⌝ }
+    {
+        let planned = self.planned;
+        if self.index < planned.count {
+            return here(self);
+        }
+        let region = planned.region;
+        if !region.within() {
+            return Stepped {
+                step: Step::Ended,
+                place: self,
+            };
+        }
+        here(found(file, planned.next, self.links))
+    }
+}
