@@ -1,5 +1,5 @@
-//! The refusals 1 to 9 of document 01, each with its number.
-//! Written from documents 01 and 004 alone and not from the Rattle code.
+//! The refusals 1 to 15 of document 01, each with its number.
+//! Written from documents 01, 003 and 004 alone and not from the Rattle code.
 
 use std::fmt;
 
@@ -25,6 +25,18 @@ pub enum Refusal {
     BufferLengths,
     /// 9: start + count is above 2^32.
     Count,
+    /// 10: an edge or an extent of the region is outside its limits.
+    Region,
+    /// 11: the file is empty, over 65,536 bytes, or not whole records.
+    FileLength,
+    /// 12: bytes 8 to 31 of record 0 are not all zero.
+    HeadBytes,
+    /// 13: the chain names a record that the file lacks.
+    MissingRecord,
+    /// 14: the chain returns to a record.
+    Return,
+    /// 15: the count of visits is above 4,096.
+    VisitCount,
 }
 
 impl Refusal {
@@ -40,6 +52,12 @@ impl Refusal {
             Refusal::Block => 7,
             Refusal::BufferLengths => 8,
             Refusal::Count => 9,
+            Refusal::Region => 10,
+            Refusal::FileLength => 11,
+            Refusal::HeadBytes => 12,
+            Refusal::MissingRecord => 13,
+            Refusal::Return => 14,
+            Refusal::VisitCount => 15,
         }
     }
 }
@@ -66,7 +84,7 @@ mod tests {
     }
 
     #[test]
-    fn numbers_run_from_one_to_nine() {
+    fn numbers_run_from_one_to_fifteen() {
         let all = [
             Refusal::WordCount,
             Refusal::Level,
@@ -77,8 +95,14 @@ mod tests {
             Refusal::Block,
             Refusal::BufferLengths,
             Refusal::Count,
+            Refusal::Region,
+            Refusal::FileLength,
+            Refusal::HeadBytes,
+            Refusal::MissingRecord,
+            Refusal::Return,
+            Refusal::VisitCount,
         ];
         let numbers: Vec<u32> = all.iter().map(|refusal| refusal.number()).collect();
-        assert_eq!(numbers, (1..=9).collect::<Vec<u32>>());
+        assert_eq!(numbers, (1..=15).collect::<Vec<u32>>());
     }
 }

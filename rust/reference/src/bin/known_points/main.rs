@@ -1,6 +1,10 @@
-//! Prints points, checks, queries, fills and walks, to be compared byte by
-//! byte with the output of another program. Written from documents 01 and 004
-//! alone and not from the Rattle code.
+//! Prints points, checks, queries, fills, walks, unit numbers, positions and
+//! answers to region files, to be compared byte by byte with the output of
+//! another program. Written from documents 01, 003 and 004 alone and not from
+//! the Rattle code.
+
+mod file_sections;
+mod stage_sections;
 
 use std::io::{self, BufWriter, Write};
 
@@ -20,6 +24,8 @@ fn main() -> io::Result<()> {
     query_section(&mut output)?;
     fill_section(&mut output)?;
     walk_section(&mut output)?;
+    stage_sections::all(&mut output)?;
+    file_sections::all(&mut output)?;
     output.flush()
 }
 

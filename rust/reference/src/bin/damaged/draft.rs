@@ -1,0 +1,136 @@
+//! A region file in order, still as fields, so that it can be damaged.
+//! Written from documents 01, 003 and 004 alone and not from the Rattle code.
+
+use reference::region_file::{file_of, Fields};
+
+use crate::splitmix::Splitmix;
+
+/// The places of the fields in a record. The first record's number stands in
+/// record 0 where the others have the next one's.
+pub const NEXT: usize = 0;
+pub const LEVEL: usize = 1;
+pub const LEFT: usize = 1;
+pub const TOP: usize = 2;
+pub const WIDTH: usize = 3;
+pub const HEIGHT: usize = 4;
+pub const COUNT: usize = 7;
+
+/// The records, and the numbers of the chain in its order.
+pub struct Draft {
+    pub records: Vec<Fields>,
+    pub chain: Vec<u32>,
+}
+
+impl Draft {
+    /// A chain in shuffled order. The records off the chain hold junk, which
+    /// would be refused if anyone looked at it.
+    pub fn new(random: &mut Splitmix, on_chain: u32, off_chain: u32) -> Draft {
+        let mut chain: Vec<u32> = (1..=on_chain + off_chain).collect();
+        random.shuffle(&mut chain);
+        let mut records: Vec<Fields> = (0..=chain.len()).map(|_| junk(random)).collect();
+        records[0] = [0, 1 + random.below(32), 0, 0, 0, 0, 0, 0];
+        chain.truncate(on_chain as usize);
+        let mut last = 0;
+        for &number in &chain {
+            records[last][NEXT] = number;
+            last = number as usize;
+            records[last] = in_order(random);
+        }
+        Draft { records, chain }
+    }
+
+    /// Up to twelve records on the chain, and sometimes none.
+    pub fn any(random: &mut Splitmix) -> Draft {
+        let on_chain = if random.one_in(16) { 0 } else { 1 + random.below(12) };
+        let off_chain = if random.one_in(2) { 0 } else { random.below(5) };
+        Draft::new(random, on_chain, off_chain)
+    }
+
+    /// At least one record on the chain, so that there is one to damage.
+    pub fn chained(random: &mut Splitmix) -> Draft {
+        let (on_chain, off_chain) = (1 + random.below(6), random.below(4));
+        Draft::new(random, on_chain, off_chain)
+    }
+
+    /// A chain of all the 2,047 records there can be. The counts are cut to 0
+    /// or 1, or its listing would be longer than all the others.
+    pub fn full(random: &mut Splitmix) -> Draft {
+        let mut draft = Draft::new(random, 2_047, 0);
+        for record in &mut draft.records[1..] {
+            record[COUNT] &= 1;
+        }
+        draft
+    }
+
+    pub fn bytes(&self) -> Vec<u8> {
+        file_of(&self.records)
+    }
+}
+
+fn junk(random: &mut Splitmix) -> Fields {
+    std::array::from_fn(|_| random.word())
+}
+
+/// A record in order, at the end of the chain.
+fn in_order(random: &mut Splitmix) -> Fields {
+    let (left, top) = (edge(random), edge(random));
+    let (width, height) = (extent(random), extent(random));
+    let (x, y) = (shift(random), shift(random));
+    [0, left as u32, top as u32, width, height, x, y, count(random)]
+}
+
+fn edge(random: &mut Splitmix) -> i32 {
+    match random.below(8) {
+        0 => random.pick(&[-1_000_000, 1_000_000]),
+        1 => random.below(7) as i32 - 3,
+        _ => random.below(2_000_001) as i32 - 1_000_000,
+    }
+}
+
+fn extent(random: &mut Splitmix) -> u32 {
+    match random.below(8) {
+        0 => random.pick(&[1, 1_000_000]),
+        1 => 1 + random.below(5),
+        _ => 1 + random.below(1_000_000),
+    }
+}
+
+fn shift(random: &mut Splitmix) -> u32 {
+    match random.below(4) {
+        0 => 0,
+        1 => 1 << random.below(32),
+        _ => random.word(),
+    }
+}
+
+/// Mostly small, or the listings would be long for little gain.
+fn count(random: &mut Splitmix) -> u32 {
+    match random.below(400) {
+        0 => 1_000 + random.below(3_097),
+        1..=15 => random.below(120),
+        _ => random.below(9),
+    }
+}
+
+#[cfg(test)]
+mod tests {
+    use super::*;
+    use reference::region_file::chain;
+
+    #[test]
+    fn drafts_are_accepted_with_their_chain() {
+        for number in 0..500 {
+            let draft = Draft::any(&mut Splitmix::of_file(7, number));
+            let records = chain(&draft.bytes()).unwrap();
+            let numbers: Vec<u32> = records.iter().map(|record| record.number).collect();
+            assert_eq!(numbers, draft.chain);
+        }
+    }
+
+    #[test]
+    fn full_draft_has_the_largest_length() {
+        let file = Draft::full(&mut Splitmix::of_file(7, 7)).bytes();
+        assert_eq!(file.len(), 65_536);
+        assert_eq!(chain(&file).unwrap().len(), 2_047);
+    }
+}

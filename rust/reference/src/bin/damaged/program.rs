@@ -1,0 +1,114 @@
+//! Runs the program under trial on one file and takes its answer.
+//! Written from documents 01, 003 and 004 alone and not from the Rattle code.
+
+use std::io::{self, Read, Write};
+use std::process::{Child, ChildStdin, ChildStdout, Command, ExitStatus, Stdio};
+use std::sync::mpsc::{self, Receiver};
+use std::thread;
+use std::time::Duration;
+
+/// A program that says nothing for so long is taken to hang.
+const PATIENCE: Duration = Duration::from_secs(10);
+
+/// Bytes read beyond the expected ones, enough for a line that differs. A
+/// program that never ends its output then fills no memory.
+const MORE: usize = 256;
+
+/// What the program printed, and its exit status if it ended by itself.
+#[derive(Debug)]
+pub struct Answer {
+    pub output: Vec<u8>,
+    pub status: Option<ExitStatus>,
+}
+
+impl Answer {
+    pub fn is(&self, expected: &[u8]) -> bool {
+        self.output == expected && self.status.is_some_and(|status| status.success())
+    }
+}
+
+/// The answer to a file, whose listing is expected to have this length.
+pub fn answer(program: &str, file: &[u8], expected: usize) -> io::Result<Answer> {
+    let mut command = Command::new(program);
+    command.stdin(Stdio::piped()).stdout(Stdio::piped()).stderr(Stdio::null());
+    let mut child = command.spawn()?;
+    if let Some(stdin) = child.stdin.take() {
+        write_apart(stdin, file.to_vec());
+    }
+    let most = expected + MORE;
+    let received = child.stdout.take().map(|stdout| read_apart(stdout, most));
+    let output = received.and_then(|output| output.recv_timeout(PATIENCE).ok());
+    match output {
+        Some(output) if output.len() < most => {
+            let status = Some(child.wait()?);
+            Ok(Answer { output, status })
+        }
+        unended => {
+            end(&mut child)?;
+            Ok(Answer { output: unended.unwrap_or_default(), status: None })
+        }
+    }
+}
+
+/// Writes in a thread of its own, because the program may print before it has
+/// read everything. It may also leave a part unread, so a broken pipe is no
+/// fault. The end of the thread closes the pipe.
+fn write_apart(mut stdin: ChildStdin, file: Vec<u8>) {
+    thread::spawn(move || {
+        let _ = stdin.write_all(&file);
+    });
+}
+
+/// Reads in a thread of its own, so that the wait for it can end.
+fn read_apart(stdout: ChildStdout, most: usize) -> Receiver<Vec<u8>> {
+    let (sender, receiver) = mpsc::channel();
+    thread::spawn(move || {
+        let mut output = Vec::new();
+        // What was read before a failure is the answer all the same.
+        let _ = stdout.take(most as u64).read_to_end(&mut output);
+        let _ = sender.send(output);
+    });
+    receiver
+}
+
+/// Ends our own child; it may have ended meanwhile.
+fn end(child: &mut Child) -> io::Result<()> {
+    let _ = child.kill();
+    child.wait().map(|_| ())
+}
+
+#[cfg(test)]
+mod tests {
+    use super::*;
+
+    #[test]
+    fn input_comes_back_whole() {
+        for length in [0, 1, 65_536, 65_537, 1_000_000] {
+            let file: Vec<u8> = (0..length).map(|i| i as u8).collect();
+            assert!(answer("cat", &file, file.len()).unwrap().is(&file));
+        }
+    }
+
+    #[test]
+    fn unread_input_is_no_fault() {
+        let answer = answer("true", &[0; 1_000_000], 0).unwrap();
+        assert!(answer.is(b""));
+        assert!(!answer.is(b"x"));
+    }
+
+    #[test]
+    fn exit_status_counts() {
+        assert!(!answer("false", b"", 0).unwrap().is(b""));
+    }
+
+    #[test]
+    fn endless_output_is_ended() {
+        let answer = answer("yes", b"", 10).unwrap();
+        assert_eq!((answer.output.len(), answer.status), (10 + MORE, None));
+    }
+
+    #[test]
+    fn missing_program_is_an_error() {
+        assert!(answer("./no such program", b"", 0).is_err());
+    }
+}

@@ -1,0 +1,106 @@
+//! The sections on unit numbers, positions and singles along a walk.
+//! Written from documents 01, 003 and 004 alone and not from the Rattle code.
+
+use std::io::{self, Write};
+
+use reference::pair::{Pair, Point, Shift, NO_SHIFT};
+use reference::stage::Region;
+use reference::unit::{double, single, Singles};
+use reference::walk::{Step, Walk};
+
+/// The shift of the second places and of the steps.
+const SHIFT: Shift = Shift { x: 305_419_896, y: 2_596_069_104 };
+
+pub fn all(output: &mut impl Write) -> io::Result<()> {
+    units_section(output)?;
+    let region = Region { left: -500, top: 0, width: 1000, height: 800 };
+    places_section(output, region, NO_SHIFT)?;
+    let region = Region { left: -1_000_000, top: 1_000_000, width: 1_000_000, height: 999_983 };
+    places_section(output, region, SHIFT)?;
+    positions_section(output)?;
+    steps_section(output)
+}
+
+/// The words about each power of two, and the last word.
+fn units_section(output: &mut impl Write) -> io::Result<()> {
+    writeln!(output, "units")?;
+    let about_powers = (0..32).flat_map(|k| (0..3).map(move |more| (1u32 << k) - 1 + more));
+    for word in about_powers.chain([u32::MAX]) {
+        writeln!(output, "{word} {} {}", single(word).to_bits(), double(word).to_bits())?;
+    }
+    Ok(())
+}
+
+fn places_section(output: &mut impl Write, region: Region, shift: Shift) -> io::Result<()> {
+    let Region { left, top, width, height } = region;
+    writeln!(output, "places {left} {top} {width} {height} {} {}", shift.x, shift.y)?;
+    let pair = Pair::standard();
+    for index in 0..1024 {
+        let point = pair.point(index, shift);
+        write!(output, "{index} ")?;
+        position_fields(output, region, point)?;
+        writeln!(output, " {}", single_fields(point))?;
+    }
+    Ok(())
+}
+
+/// The position, or its refusal.
+fn position_fields(output: &mut impl Write, region: Region, point: Point) -> io::Result<()> {
+    match region.position(point) {
+        Ok(position) => write!(output, "{} {}", position.x, position.y),
+        Err(refusal) => write!(output, "{refusal}"),
+    }
+}
+
+/// The bits of both singles.
+fn single_fields(point: Point) -> String {
+    let Singles { x, y } = Singles::of(point);
+    format!("{} {}", x.to_bits(), y.to_bits())
+}
+
+/// Regions and words: the floor, the ends, and each limit passed.
+const POSITIONS: [(i32, i32, u32, u32, u32, u32); 16] = [
+    (-1, -1, 3, 3, 1_073_741_824, 3_221_225_472),
+    (-1_000_000, -1_000_000, 1, 1, 4_294_967_295, 4_294_967_295),
+    (1_000_000, 1_000_000, 1_000_000, 1_000_000, 4_294_967_295, 4_294_967_295),
+    (-1_000_000, 1_000_000, 1_000_000, 1, 2_147_483_648, 0),
+    (-1_000_001, 0, 1, 1, 0, 0),
+    (1_000_001, 0, 1, 1, 0, 0),
+    (0, -1_000_001, 1, 1, 0, 0),
+    (0, 1_000_001, 1, 1, 0, 0),
+    (0, 0, 0, 1, 0, 0),
+    (0, 0, 1, 0, 0, 0),
+    (0, 0, 1_000_001, 1, 0, 0),
+    (0, 0, 1, 1_000_001, 0, 0),
+    (-2_147_483_648, 0, 1, 1, 0, 0),
+    (0, 2_147_483_647, 1, 1, 0, 0),
+    (0, 0, 4_294_967_295, 1, 0, 0),
+    (0, 0, 1, 4_294_967_295, 0, 0),
+];
+
+fn positions_section(output: &mut impl Write) -> io::Result<()> {
+    writeln!(output, "positions")?;
+    for (left, top, width, height, x, y) in POSITIONS {
+        write!(output, "{left} {top} {width} {height} {x} {y} ")?;
+        position_fields(output, Region { left, top, width, height }, Point { x, y })?;
+        writeln!(output)?;
+    }
+    Ok(())
+}
+
+/// The last two visits of all as singles, and a step after the end.
+fn steps_section(output: &mut impl Write) -> io::Result<()> {
+    writeln!(output, "steps")?;
+    let pair = Pair::standard();
+    let opened = Walk::open(4_294_967_294, 2);
+    let mut walk = opened.map_err(|refusal| io::Error::other(refusal.to_string()))?;
+    for _ in 0..3 {
+        let (step, after) = walk.step(&pair, SHIFT);
+        match step {
+            Step::Visit { index, point } => writeln!(output, "{index} {}", single_fields(point))?,
+            Step::Ended => writeln!(output, "ended")?,
+        }
+        walk = after;
+    }
+    Ok(())
+}

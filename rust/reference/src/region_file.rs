@@ -1,0 +1,261 @@
+//! The region file: records of 32 bytes, the chain through them, its visits.
+//! Written from documents 01, 003 and 004 alone and not from the Rattle code.
+
+use crate::check::judge_level;
+use crate::pair::{Pair, Shift};
+use crate::refusal::Refusal;
+use crate::stage::{Position, Region};
+
+/// A record has eight fields of four bytes.
+pub const RECORD_BYTES: usize = 32;
+
+pub const LARGEST_FILE: usize = 65_536;
+
+pub const LARGEST_COUNT: u32 = 4_096;
+
+/// The fields of a record in the order of the file.
+pub type Fields = [u32; 8];
+
+/// A record of the chain, judged already.
+#[derive(Clone, Copy, Debug, PartialEq, Eq)]
+pub struct Record {
+    pub number: u32,
+    pub region: Region,
+    pub shift: Shift,
+    pub count: u32,
+}
+
+/// One line of the listing.
+#[derive(Clone, Copy, Debug, PartialEq, Eq)]
+pub struct Visit {
+    pub record: u32,
+    pub index: u32,
+    pub position: Position,
+}
+
+/// The bytes of a file with these records, record 0 first. It judges nothing.
+pub fn file_of(records: &[Fields]) -> Vec<u8> {
+    records.iter().flatten().flat_map(|field| field.to_le_bytes()).collect()
+}
+
+/// Refusals 11, 2 and 12, in this order, and then those of the links; otherwise
+/// the records of the chain in its order.
+pub fn chain(file: &[u8]) -> Result<Vec<Record>, Refusal> {
+    if file.is_empty() || file.len() > LARGEST_FILE || !file.len().is_multiple_of(RECORD_BYTES) {
+        return Err(Refusal::FileLength);
+    }
+    let [first, level, ..] = fields(file);
+    // The level has no other use: the file's pair passes every level.
+    judge_level(level)?;
+    if file[8..RECORD_BYTES].iter().any(|&byte| byte != 0) {
+        return Err(Refusal::HeadBytes);
+    }
+    let mut chain = Vec::new();
+    let mut link = first;
+    while link != 0 {
+        let (record, next) = judge_link(file, &chain, link)?;
+        chain.push(record);
+        link = next;
+    }
+    Ok(chain)
+}
+
+/// Refusals 13, 14, 10 and 15 of a link that is not 0, in this order; otherwise
+/// the record it names and the number that follows there.
+fn judge_link(file: &[u8], before: &[Record], link: u32) -> Result<(Record, u32), Refusal> {
+    let bytes = file.chunks_exact(RECORD_BYTES).nth(link as usize);
+    let bytes = bytes.ok_or(Refusal::MissingRecord)?;
+    if before.iter().any(|record| record.number == link) {
+        return Err(Refusal::Return);
+    }
+    let [next, left, top, width, height, x, y, count] = fields(bytes);
+    // Two's complement: the cast keeps the bits.
+    let region = Region { left: left as i32, top: top as i32, width, height };
+    region.judge()?;
+    if count > LARGEST_COUNT {
+        return Err(Refusal::VisitCount);
+    }
+    Ok((Record { number: link, region, shift: Shift { x, y }, count }, next))
+}
+
+/// The fields of the record at the beginning of these bytes.
+fn fields(bytes: &[u8]) -> Fields {
+    std::array::from_fn(|i| {
+        let at = 4 * i;
+        u32::from_le_bytes([bytes[at], bytes[at + 1], bytes[at + 2], bytes[at + 3]])
+    })
+}
+
+/// The visits of a chain: records in its order, indexes rising from 0.
+pub fn visits(chain: &[Record]) -> impl Iterator<Item = Visit> + '_ {
+    let pair = Pair::standard();
+    chain.iter().flat_map(move |record| {
+        (0..record.count).map(move |index| {
+            let position = record.region.place(pair.point(index, record.shift));
+            Visit { record: record.number, index, position }
+        })
+    })
+}
+
+#[cfg(test)]
+mod tests {
+    use super::*;
+    use crate::random::Random;
+
+    const NEXT: usize = 0;
+    const LEFT: usize = 1;
+    const WIDTH: usize = 3;
+    const COUNT: usize = 7;
+
+    /// A record in order that ends the chain: the example of document 01.
+    const RECORD: Fields = [0, (-500i32) as u32, 0, 1000, 800, 0, 0, 4];
+
+    fn head(first: u32, level: u32) -> Fields {
+        [first, level, 0, 0, 0, 0, 0, 0]
+    }
+
+    fn with(field: usize, value: u32) -> Fields {
+        let mut record = RECORD;
+        record[field] = value;
+        record
+    }
+
+    /// The numbers of the chain's records, or the number of the refusal.
+    fn judged(records: &[Fields]) -> Result<Vec<u32>, u32> {
+        numbers(&file_of(records))
+    }
+
+    fn numbers(file: &[u8]) -> Result<Vec<u32>, u32> {
+        let chain = chain(file).map_err(Refusal::number)?;
+        Ok(chain.iter().map(|record| record.number).collect())
+    }
+
+    #[test]
+    fn bytes_stand_lowest_first() {
+        let mut file = vec![1, 0, 0, 0, 2, 0, 0, 0];
+        file.resize(32, 0);
+        file.extend([0, 0, 0, 0, 0x0C, 0xFE, 0xFF, 0xFF, 0, 0, 0, 0]);
+        file.extend([0xE8, 3, 0, 0, 0x20, 3, 0, 0]);
+        file.extend([1, 2, 3, 4, 5, 6, 7, 8, 4, 0, 0, 0]);
+        let region = Region { left: -500, top: 0, width: 1000, height: 800 };
+        let shift = Shift { x: 0x0403_0201, y: 0x0807_0605 };
+        assert_eq!(chain(&file), Ok(vec![Record { number: 1, region, shift, count: 4 }]));
+        let mut record = RECORD;
+        record[5..7].copy_from_slice(&[0x0403_0201, 0x0807_0605]);
+        assert_eq!(file, file_of(&[head(1, 2), record]));
+    }
+
+    #[test]
+    fn visits_of_the_example() {
+        let chain = chain(&file_of(&[head(1, 2), RECORD])).unwrap();
+        let places = [(-500, 0), (0, 400), (-250, 600), (250, 200)];
+        let expected = (0..).zip(places).map(|(index, (x, y))| Visit {
+            record: 1,
+            index,
+            position: Position { x, y },
+        });
+        assert_eq!(visits(&chain).collect::<Vec<_>>(), expected.collect::<Vec<_>>());
+    }
+
+    #[test]
+    fn examples_of_the_table() {
+        assert_eq!(numbers(&file_of(&[head(1, 2), RECORD])[..40]), Err(11));
+        assert_eq!(judged(&[head(1, 33), RECORD]), Err(2));
+        let mut file = file_of(&[head(1, 2), RECORD]);
+        file[8] = 1;
+        assert_eq!(numbers(&file), Err(12));
+        assert_eq!(judged(&[head(1, 2), with(NEXT, 5)]), Err(13));
+        assert_eq!(judged(&[head(1, 2), with(NEXT, 1)]), Err(14));
+        assert_eq!(judged(&[head(1, 2), with(WIDTH, 0)]), Err(10));
+        assert_eq!(judged(&[head(1, 2), with(COUNT, 4_097)]), Err(15));
+        assert_eq!(judged(&[head(1, 2), with(COUNT, 4_096)]), Ok(vec![1]));
+    }
+
+    #[test]
+    fn length_is_judged_at_its_limits() {
+        let mut file = file_of(&[head(0, 1)]);
+        file.resize(65_568, 0xFF);
+        for length in [0, 1, 31, 33, 63, 65_535, 65_537, 65_568] {
+            assert_eq!(numbers(&file[..length]), Err(11));
+        }
+        for length in [32, 64, 65_504, 65_536] {
+            assert_eq!(numbers(&file[..length]), Ok(vec![]));
+        }
+    }
+
+    #[test]
+    fn every_zero_byte_of_the_head_is_judged() {
+        for at in 8..32 {
+            for value in [1, 0x80, 0xFF] {
+                let mut file = file_of(&[head(1, 2), RECORD]);
+                file[at] = value;
+                assert_eq!(numbers(&file), Err(12));
+            }
+        }
+    }
+
+    /// Each file has every fault from its own on; the earlier ones are mended.
+    #[test]
+    fn refusals_come_in_order() {
+        let worst = [2, 2_000_000, 0, 0, 0, 0, 0, 5_000];
+        let mut bad_head = head(7, 33);
+        bad_head[2] = 1;
+        let mut file = file_of(&[bad_head, worst]);
+        file.push(0);
+        assert_eq!(numbers(&file), Err(11));
+        assert_eq!(judged(&[bad_head, worst]), Err(2));
+        bad_head[1] = 32;
+        assert_eq!(judged(&[bad_head, worst]), Err(12));
+        assert_eq!(judged(&[head(7, 32), worst]), Err(13));
+        assert_eq!(judged(&[head(1, 32), worst]), Err(10));
+        let mut record = worst;
+        record[LEFT..=4].copy_from_slice(&[0, 0, 1, 1]);
+        assert_eq!(judged(&[head(1, 32), record]), Err(15));
+        record[COUNT] = 0;
+        assert_eq!(judged(&[head(1, 32), record]), Err(13));
+        record[NEXT] = 1;
+        assert_eq!(judged(&[head(1, 32), record]), Err(14));
+    }
+
+    /// The record a link names is judged before the link it holds.
+    #[test]
+    fn link_is_judged_whole_before_the_next() {
+        let mut record = with(NEXT, 5);
+        record[COUNT] = 4_097;
+        assert_eq!(judged(&[head(1, 2), record]), Err(15));
+        let second = with(WIDTH, 0);
+        assert_eq!(judged(&[head(1, 2), with(NEXT, 2), second]), Err(10));
+        assert_eq!(judged(&[head(2, 2), with(COUNT, 4_097), second]), Err(10));
+    }
+
+    #[test]
+    fn records_off_the_chain_are_not_judged() {
+        let junk = [u32::MAX; 8];
+        assert_eq!(judged(&[head(2, 2), junk, RECORD, junk]), Ok(vec![2]));
+        assert_eq!(judged(&[head(0, 2), junk]), Ok(vec![]));
+    }
+
+    #[test]
+    fn links_are_judged_at_the_end_of_the_file() {
+        assert_eq!(judged(&[head(1, 2)]), Err(13));
+        assert_eq!(judged(&[head(2, 2), RECORD]), Err(13));
+        assert_eq!(judged(&[head(u32::MAX, 2), RECORD]), Err(13));
+        // This number times 32 is 32 again when cut to 32 bits.
+        assert_eq!(judged(&[head(0x0800_0001, 2), RECORD]), Err(13));
+    }
+
+    #[test]
+    fn chain_of_all_records_in_any_order() {
+        let mut random = Random::from_seed(2_047);
+        let mut order: Vec<u32> = (1..=2_047).collect();
+        order.sort_by_cached_key(|_| random.word());
+        let mut records = vec![RECORD; 2_048];
+        records[0] = head(order[0], 32);
+        for link in order.windows(2) {
+            records[link[0] as usize][NEXT] = link[1];
+        }
+        assert_eq!(judged(&records), Ok(order.clone()));
+        records[order[2_046] as usize][NEXT] = order[0];
+        assert_eq!(judged(&records), Err(14));
+    }
+}
