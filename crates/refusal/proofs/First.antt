@@ -29,6 +29,10 @@ pub accepted-refused : {A : Type 0} {a : A} {n : ℕ} {vs : List ℕ} → accept
 unfolding accepted-or-not
 accepted-refused e = let z : _≡_ {A = ℕ} 0 1 = ap accepted-or-not e in omega arith
 
+-- and what is accepted is one thing
+pub accepted-same : {A : Type 0} {a b : A} → accepted a ≡ accepted b → a ≡ b
+accepted-same e = cc
+
 -- what is accepted has passed each test
 module _ {A : Type 0} (after : Outcome A) (n : ℕ) (ts : List Test) {b : A} where
   pub first-accepted : (holds : Bool) → first (record { number = n; holds = holds } ∷ ts) after ≡ accepted b

@@ -33,8 +33,7 @@ module _ {A : Type 0} {after : Outcome A} {b : A} (limit : ℕ) (file : List ℕ
       let one = first-accepted after 13 (returning seen ∷ later) (leb (records file) n) e in
       let two = first-accepted after 14 later seen (one .1) in
       let three = first-accepted after 10 last (not (within (r .region))) (two .1) in
-      let four = first-accepted after 15 [] (ltb limit (r .count)) (three .1) in
-      (
+      let four = first-accepted after 15 [] (ltb limit (r .count)) (three .1) in (
         record { here = leb-false (records file) n (one .0); fresh = two .0; inside = not-false _ (three .0); few = ltb-false limit (r .count) (four .0) },
         sym (first-none after) ∙ four .1,
       )

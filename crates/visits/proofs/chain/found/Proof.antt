@@ -1,3 +1,17 @@
+-- `chain::found` meets its contract: what is to come from the number at hand is what is to come from the start.
+-- Assumes nothing.
+use mathlib.Core.Path.{_≡_, sym, ap, _∙_, subst}
+use mathlib.Core.List.{List, []}
+use mathlib.Core.Logic.{inl, inr}
+use Prim.Native.Nat.{ℕ, _-_, _^_, _≤_, _<_, zero-le}
+use native.Mathlib.Omega.{arith}
+use denote.Ref.{now}
+use borrow.Author.Needs.{needs}
+use borrow.Author.Tests.{not-true, not-false}
+use Rattle.region_file.specs.declared.fields.Record.{Record}
+use Rattle.visits.specs.declared.place.Place.{Place}
+use Rattle.visits.specs.Place.{from, to-come, leading-to, Found}
+use Rattle.visits.proofs.Coming.{from-over, from-stop, from-empty, start-of, start-comes, leading-comes}
 use Rattle.visits.proofs.chain.found.Statement.{statement}
 use Rattle.visits.proofs.chain.found.Tie as tie
 use Rattle.visits.proofs.chain.found.Reads as reads
@@ -7,54 +21,83 @@ use Rattle.visits.proofs.chain.listable.Reads as listable-reads
 use Rattle.visits.proofs.chain.planned.Reads as planned-reads
 
 abbrev Inv-loop : tie.InvT-loop
-Inv-loop file start links n₀ left₀ n left = ?
+Inv-loop file start links n₀ left₀ n left = (n < 2 ^ 32) × (left ≤ links) × (from file left n ≡ from file links start)
 
 abbrev μ-loop : tie.MeasureT-loop
-μ-loop file start links n₀ left₀ n left = ?
+μ-loop file start links n₀ left₀ n left = left
 
 -- src/chain.rt:60:5
 loop-holds : tie.Need-loop-holds Inv-loop μ-loop
-loop-holds c = ?
+loop-holds c = search needs
 
 -- src/chain.rt:61:13
 listable-requires : tie.Need-listable-requires Inv-loop μ-loop
-listable-requires c κs = ?
+listable-requires c κs = search needs
 
 -- src/chain.rt:62:13
 leading-to-requires : tie.Need-leading-to-requires Inv-loop μ-loop
-leading-to-requires c κs = ?
+leading-to-requires c κs = search needs
+
+-- a place that has ended, where nothing is to come
+none : (file : List ℕ) (start links : ℕ) (p : Place) → p ≡ leading-to 0 0 → from file links start ≡ [] → Found file start links p
+none file start links p e h =
+    let c = ap (to-come file) e ∙ leading-comes file 0 0 ∙ from-over file 0 0 zero-le in
+    record { same = c ∙ sym h; ready = inr c }
 
 -- src/chain.rt:62:13
 returns : tie.Need-returns Inv-loop μ-loop
-returns c = ?
+returns c =
+    let file = now (c .before .before .before .before .before .before .args .file) in
+    let i = c .before .before .before .before .loop in
+    let e = from-stop file (i .left) (i .n) (sym (c .before .before .listable .ensures) ∙ not-true _ (c .before .if1 .taken)) in
+    none file (c .before .before .before .before .before .before .args .start) (c .before .before .before .before .before .before .args .links) (c .leading-to .result) (c .leading-to .ensures) (sym (i .inv .2) ∙ e)
 
 -- src/chain.rt:64:9
 sub-left : tie.Need-sub-left Inv-loop μ-loop
-sub-left c = ?
+sub-left c = search needs
 
 -- src/chain.rt:65:13
 planned-requires : tie.Need-planned-requires Inv-loop μ-loop
-planned-requires c κs = ?
+planned-requires c κs = search needs
 
 -- src/chain.rt:67:13
 returns-2 : tie.Need-returns-2 Inv-loop μ-loop
-returns-2 c = ?
+returns-2 c =
+    let file = now (c .before .before .before .before .before .before .before .before .args .file) in
+    let i = c .before .before .before .before .before .before .loop in
+    let e = c .before .before .planned .ensures in
+    let h = sym (c .before .before .before .before .listable .ensures) ∙ not-false _ (c .before .before .before .if1 .left) in
+    let comes = start-comes file (i .left) (i .n) (c .before .before .before .before .before .loop-test .taken) h in
+    record { same = ap (λ (r : Record). to-come file (start-of (i .n) r (i .left - 1))) e ∙ comes ∙ i .inv .2; ready = inl (c .if2 .taken) }
 
 -- src/chain.rt:60:5
 loop-less : tie.Need-loop-less Inv-loop μ-loop
-loop-less c = ?
+loop-less c = search needs
 
 -- src/chain.rt:60:5
 loop-again : tie.Need-loop-again Inv-loop μ-loop
-loop-again c = ?
+loop-again c =
+    let file = now (c .before .before .before .before .before .before .before .before .args .file) in
+    let i = c .before .before .before .before .before .before .loop in
+    let e = c .before .before .planned .ensures in
+    let h = sym (c .before .before .before .before .listable .ensures) ∙ not-false _ (c .before .before .before .if1 .left) in (
+      search needs,
+      search needs,
+      ap (λ (r : Record). from file (i .left - 1) (r .next)) e
+          ∙ sym (from-empty file (i .left) (i .n) (c .before .before .before .before .before .loop-test .taken) h (subst (λ (r : Record). r .count ≤ 0) e (c .if2 .left)))
+          ∙ i .inv .2,
+    )
 
 -- src/chain.rt:76:5
 leading-to-requires-2 : tie.Need-leading-to-requires-2 Inv-loop μ-loop
-leading-to-requires-2 c κs = ?
+leading-to-requires-2 c κs = search needs
 
 -- src/chain.rt:55:1
 returns-3 : tie.Need-returns-3 Inv-loop μ-loop
-returns-3 c = ?
+returns-3 c =
+    let file = now (c .before .before .before .before .args .file) in
+    let i = c .before .before .loop in
+    none file (c .before .before .before .before .args .start) (c .before .before .before .before .args .links) (c .leading-to2 .result) (c .leading-to2 .ensures) (sym (i .inv .2) ∙ from-over file (i .left) (i .n) (c .before .loop-test .left))
 
 pub found-spec : {M : Type 1} → statement M
 found-spec =

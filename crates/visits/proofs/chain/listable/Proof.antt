@@ -1,3 +1,11 @@
+-- `chain::listable` meets its contract.
+-- Assumes nothing.
+use mathlib.Core.Path.{_≡_, sym, ap, _∙_, subst}
+use Prim.Native.Nat.{ℕ, _≤_, _<_}
+use denote.Ref.{now}
+use Rattle.stage.specs.Region.{within}
+use Rattle.region_file.specs.declared.fields.Record.{Record}
+use Rattle.visits.proofs.Coming.{listable-zero, listable-past, listable-region}
 use borrow.Author.Needs.{needs}
 use Rattle.visits.proofs.chain.listable.Statement.{statement}
 use Rattle.visits.proofs.chain.listable.Tie as tie
@@ -9,7 +17,7 @@ use Rattle.visits.proofs.chain.planned.Reads as planned-reads
 
 -- src/chain.rt:22:9
 returns : tie.Need-returns
-returns c = ?
+returns c = let a = c .before .before .args in sym (listable-zero (now (a .file)) (a .n) (c .if1 .taken))
 
 -- src/chain.rt:24:8
 record-count-requires : tie.Need-record-count-requires
@@ -17,7 +25,7 @@ record-count-requires c κs = search needs
 
 -- src/chain.rt:25:9
 returns-2 : tie.Need-returns-2
-returns-2 c = ?
+returns-2 c = let a = c .before .before .before .before .args in sym (listable-past (now (a .file)) (a .n) (c .before .before .if1 .left) (subst (λ (k : ℕ). k ≤ a .n) (c .before .record-count .ensures) (c .if2 .taken)))
 
 -- src/chain.rt:27:9
 planned-requires : tie.Need-planned-requires
@@ -29,7 +37,11 @@ within-requires c κs = search needs
 
 -- src/chain.rt:18:1
 returns-3 : tie.Need-returns-3
-returns-3 c = ?
+returns-3 c =
+    let a = c .before .before .before .before .before .before .before .args in
+    c .within .ensures
+    ∙ ap (λ (r : Record). within (r .region)) (c .before .before .planned .ensures)
+    ∙ sym (listable-region (now (a .file)) (a .n) (c .before .before .before .before .before .if1 .left) (subst (λ (k : ℕ). a .n < k) (c .before .before .before .before .record-count .ensures) (c .before .before .before .if2 .left)))
 
 pub listable-spec : {M : Type 1} → statement M
 listable-spec =

@@ -1,3 +1,16 @@
+-- `place::here` meets its contract.
+-- Assumes nothing.
+use mathlib.Core.Path.{_≡_, sym, ap, ap₂, _∙_}
+use lib.IntN.{ℤ}
+use mir.Syntax.{w32}
+use mir.Val.{SFits, toZ, ofZ}
+use mir.ValLaws.{toZ-ofZ}
+use borrow.Author.Tests.{le-leb, lt-leb}
+use Rattle.stage.specs.declared.regions.Position.{Position}
+use Rattle.stage.specs.Region.{of-placed}
+use Rattle.visits.specs.Place.{here}
+use Rattle.visits.proofs.Coming.{refused-outside, accepted-inside}
+use Rattle.visits.proofs.Steps.{told, here-visit}
 use borrow.Author.Needs.{needs}
 use Rattle.visits.proofs.place.here.Statement.{statement}
 use Rattle.visits.proofs.place.here.Tie as tie
@@ -7,7 +20,8 @@ use Rattle.visits.proofs.place.position_of.Reads as position-of-reads
 
 -- src/place.rt:63:9
 returns : tie.Need-returns
-returns c = ?
+unfolding here
+returns c = sym (simp (le-leb _ _ (c .if1 .taken)))
 
 -- src/place.rt:68:9
 position-of-requires : tie.Need-position-of-requires
@@ -27,11 +41,22 @@ add-t14 c = search needs
 
 -- src/place.rt:55:1
 returns-2 : tie.Need-returns-2
-returns-2 c = ?
+unfolding here
+returns-2 c =
+    let p = c .before .before .before .before .before .before .args .place in
+    sym (simp (lt-leb _ _ (c .before .before .before .if1 .left), refused-outside (p .planned) (p .index) (sym (c .before .before .position-of .ensures) ∙ ap of-placed (c .enum-told .given .1))))
 
 -- src/place.rt:55:1
 returns-3 : tie.Need-returns-3
-returns-3 c = ?
+unfolding here
+returns-3 c =
+    let p = c .before .before .before .before .before .before .before .before .args .place in
+    let at = c .before .before .placed .given .0 .0 in
+    let e = accepted-inside (p .planned) (p .index) (sym (c .before .before .before .before .position-of .ensures) ∙ ap of-placed (c .before .before .placed .given .1)) in
+    let fx : SFits w32 (at .x) = search needs in
+    let fy : SFits w32 (at .y) = search needs in
+    ap₂ (λ (x y : ℤ). told p (record { number = p .number; index = p .index; x = x; y = y })) (toZ-ofZ w32 (at .x) fx ∙ ap (λ (q : Position). q .x) (sym (e .1))) (toZ-ofZ w32 (at .y) fy ∙ ap (λ (q : Position). q .y) (sym (e .1)))
+    ∙ sym (here-visit p (c .before .before .before .before .before .if1 .left) (e .0))
 
 pub here-spec : {M : Type 1} → statement M
 here-spec =

@@ -1,3 +1,16 @@
+-- `Place::open` meets its contract.
+-- Assumes nothing.
+use mathlib.Core.Path.{_≡_, sym, ap, _∙_}
+use denote.Ref.{now}
+use Rattle.refusal.specs.Outcome.{accepted}
+use Rattle.refusal.specs.Refusal.{of-judgement}
+use Rattle.refusal.proofs.First.{then-accepted, then-refused}
+use Rattle.region_file.specs.Fields.{first-record, most-records}
+use Rattle.region_file.specs.Judge.{nowhere, most-visits}
+use Rattle.region_file.proofs.Chain.{judged-chain}
+use Rattle.visits.specs.Visits.{visits}
+use Rattle.visits.specs.Place.{from, to-come}
+use Rattle.visits.proofs.Coming.{leading-comes, from-accepted}
 use borrow.Author.Needs.{needs}
 use Rattle.visits.proofs.place.Place.open.Statement.{statement}
 use Rattle.visits.proofs.place.Place.open.Tie as tie
@@ -29,11 +42,20 @@ leading-to-requires c κs = search needs
 
 -- src/place.rt:93:5
 returns : tie.Need-returns
-returns c = ?
+returns c = sym (then-refused _ (sym (c .before .before .before .judge .ensures) ∙ ap of-judgement (c .before .judged .given .1)))
 
 -- src/place.rt:93:5
 returns-2 : tie.Need-returns-2
-returns-2 c = ?
+unfolding visits
+returns-2 c =
+    let file = now (c .before .before .before .before .before .before .args .file) in
+    let j = sym (c .before .before .before .before .judge .ensures) ∙ ap of-judgement (c .before .before .enum-told .given .1) in
+    ap accepted
+    (ap (to-come file) (c .leading-to .ensures)
+    ∙ leading-comes file (c .before .first-record .result) most-records
+    ∙ ap (from file most-records) (c .before .first-record .ensures)
+    ∙ from-accepted most-visits file most-records nowhere (first-record file) (judged-chain most-visits file j))
+    ∙ sym (then-accepted _ j)
 
 pub open-spec : {M : Type 1} → statement M
 open-spec =

@@ -1,3 +1,13 @@
+-- `Place::step` meets its contract.
+-- Assumes nothing.
+use mathlib.Core.Path.{_≡_, sym, _∙_, subst}
+use mathlib.Core.Logic.{inl}
+use denote.Ref.{now}
+use borrow.Author.Tests.{not-true, not-false}
+use Rattle.visits.specs.declared.place.Stepped.{Stepped}
+use Rattle.visits.specs.Place.{Gives, here}
+use Rattle.visits.proofs.Coming.{to-come-outside, to-come-next}
+use Rattle.visits.proofs.Steps.{gives-here, gives-same}
 use borrow.Author.Needs.{needs}
 use Rattle.visits.proofs.place.Place.step.Statement.{statement}
 use Rattle.visits.proofs.place.Place.step.Tie as tie
@@ -13,7 +23,10 @@ here-requires c κs = search needs
 
 -- src/place.rt:109:13
 returns : tie.Need-returns
-returns c = ?
+returns c =
+    let a = c .before .before .before .before .before .before .args in
+    let file = now (a .file) in
+    subst (λ (s : Stepped). Gives file (a .self) (s .step) (s .place)) (sym (c .here .ensures)) (gives-here file (a .self) (inl (c .before .if1 .taken)))
 
 -- src/place.rt:112:13
 within-requires : tie.Need-within-requires
@@ -21,7 +34,10 @@ within-requires c κs = search needs
 
 -- src/place.rt:113:13
 returns-2 : tie.Need-returns-2
-returns-2 c = ?
+returns-2 c =
+    let a = c .before .before .before .before .before .before .before .before .args in
+    let e = to-come-outside (now (a .file)) (a .self) (sym (c .before .within .ensures) ∙ not-true _ (c .if2 .taken)) in
+    (e, e)
 
 -- src/place.rt:118:14
 found-requires : tie.Need-found-requires
@@ -33,7 +49,13 @@ here-requires-2 c κs = search needs
 
 -- src/place.rt:104:5
 returns-3 : tie.Need-returns-3
-returns-3 c = ?
+returns-3 c =
+    let a = c .before .before .before .before .before .before .before .before .before .before .args in
+    let file = now (a .file) in
+    let found = c .before .found in
+    let next = to-come-next file (a .self) (sym (c .before .before .before .within .ensures) ∙ not-false _ (c .before .before .if2 .left)) (c .before .before .before .before .before .if1 .left) in
+    subst (λ (s : Stepped). Gives file (a .self) (s .step) (s .place)) (sym (c .here2 .ensures))
+    (gives-same file (a .self) (found .result) (here (found .result) .place) (here (found .result) .step) (next ∙ sym (found .ensures .same)) (gives-here file (found .result) (found .ensures .ready)))
 
 pub step-spec : {M : Type 1} → statement M
 step-spec =

@@ -1,0 +1,52 @@
+-- What a step from a place gives, by the cases of the code.
+-- Assumes nothing.
+use mathlib.Core.Path.{_≡_, refl, sym, ap, _∙_}
+use mathlib.Core.Bool.{Bool, true, false, not, true≢false}
+use mathlib.Core.List.{List, [], _∷_}
+use mathlib.Core.Logic.{_⊎_, inl, inr}
+use Prim.Native.Nat.{ℕ, _<_}
+use native.Mathlib.Omega.{arith}
+use lib.Dec.{leb}
+use lib.ListN.{length}
+use borrow.Author.Tests.{lt-leb, leb-false}
+use Rattle.stage.specs.Region.{within}
+use Rattle.visits.specs.declared.place.Visit.{Visit}
+use Rattle.visits.specs.declared.place.Place.{Place}
+use Rattle.visits.specs.declared.place.Step.{Step}
+use Rattle.visits.specs.declared.place.Step.the-variants as step
+use Rattle.visits.specs.declared.place.Stepped.{Stepped}
+use Rattle.visits.specs.Visits.{visit}
+use Rattle.visits.specs.Place.{to-come, Gives, past, here}
+use Rattle.visits.proofs.Coming.{to-come-outside, to-come-first}
+
+-- a visit, told with the place past it
+abbrev pub told : Place → Visit → Stepped
+told p v = record { step = step.Visited v; place = past p }
+
+pub here-visit : (p : Place) → p .index < p .planned .count → within (p .planned .region) ≡ true
+    → here p ≡ told p (visit (p .number) (p .planned) (p .index))
+unfolding here
+here-visit p h e = simp (lt-leb _ _ h, e)
+
+cons-none : {v : Visit} {vs : List Visit} → v ∷ vs ≡ [] → ⊥
+cons-none e = let z = ap length e in omega (arith, z)
+
+-- from a place that has a visit, or from which none is to come
+pub gives-here : (file : List ℕ) (p : Place) → (p .index < p .planned .count) ⊎ (to-come file p ≡ []) → Gives file p (here p .step) (here p .place)
+unfolding here
+gives-here file p ready = go (leb (p .planned .count) (p .index)) refl (within (p .planned .region)) refl ready
+  where
+    ended : to-come file p ≡ [] → (to-come file p ≡ []) × (to-come file p ≡ [])
+    ended e = (e, e)
+
+    go : (a : Bool) → leb (p .planned .count) (p .index) ≡ a → (b : Bool) → within (p .planned .region) ≡ b → (p .index < p .planned .count) ⊎ (to-come file p ≡ [])
+        → Gives file p (here p .step) (here p .place)
+    go false ea true eb ready = simp (ea, eb) (to-come-first file p eb (leb-false _ _ ea))
+    go false ea false eb ready = simp (ea, eb) (ended (to-come-outside file p eb))
+    go true ea b eb (inl h) = absurd (true≢false (sym ea ∙ lt-leb _ _ h))
+    go true ea b eb (inr e) = simp ea (ended e)
+
+-- as much is to come from another place
+pub gives-same : (file : List ℕ) (p q r : Place) (s : Step) → to-come file p ≡ to-come file q → Gives file q s r → Gives file p s r
+gives-same file p q r (step.Visited v) e g = e ∙ g
+gives-same file p q r step.Ended e g = (e ∙ g .0, g .1)
