@@ -19,19 +19,33 @@ put-one d at b h = set-split d at b h ∙ ap (λ (k : ℕ). take at d ++ b ∷ d
 pub length-put : (d : List ℕ) (at : ℕ) (s : List ℕ) → at + length s ≤ length d → length (put d at s) ≡ length d
 length-put d at s h = simp (length-append, length-drop, length-take-le at d (omega arith)) (omega arith)
 
+put-end : (d : List ℕ) (at : ℕ) (s : List ℕ) → at ≤ length d → length (take at d ++ s) ≡ at + length s
+put-end d at s h = length-append (take at d) s ∙ ap (λ (k : ℕ). k + length s) (length-take-le at d h)
+
 -- a text right behind another is put as one with it
 pub put-put : (d : List ℕ) (at : ℕ) (s t : List ℕ) → at + length s + length t ≤ length d → put (put d at s) (at + length s) t ≡ put d at (s ++ t)
 put-put d at s t h =
     let n = at + length s in
     let p = take at d ++ s in
     let r = drop n d in
-    let e : length p ≡ n = length-append (take at d) s ∙ ap (λ (k : ℕ). k + length s) (length-take-le at d (omega arith)) in
+    let e : length p ≡ n = put-end d at s (omega arith) in
     ap (λ (l : List ℕ). put l n t) (sym (append-assoc (take at d) s r))
     ∙ ap (λ (l : List ℕ). l ++ (t ++ drop (n + length t) (p ++ r))) (take-at p r n e)
     ∙ ap (λ (l : List ℕ). p ++ (t ++ l)) (sym (drop-drop (length t) n (p ++ r)) ∙ ap (drop (length t)) (drop-at p r n e) ∙ drop-drop (length t) n d)
     ∙ append-assoc (take at d) s (t ++ drop (n + length t) d)
     ∙ ap (λ (l : List ℕ). take at d ++ l) (sym (append-assoc s t (drop (n + length t) d)))
     ∙ ap (λ (k : ℕ). take at d ++ ((s ++ t) ++ drop k d)) (add-assoc at (length s) (length t) ∙ ap (λ (k : ℕ). at + k) (sym (length-append s t)))
+
+-- what stands before the end of the text, and behind it
+pub take-put : (d : List ℕ) (at : ℕ) (s : List ℕ) → at ≤ length d → take (at + length s) (put d at s) ≡ take at d ++ s
+take-put d at s h =
+    ap (take (at + length s)) (sym (append-assoc (take at d) s (drop (at + length s) d)))
+    ∙ take-at (take at d ++ s) (drop (at + length s) d) (at + length s) (put-end d at s h)
+
+pub drop-put : (d : List ℕ) (at : ℕ) (s : List ℕ) → at ≤ length d → drop (at + length s) (put d at s) ≡ drop (at + length s) d
+drop-put d at s h =
+    ap (drop (at + length s)) (sym (append-assoc (take at d) s (drop (at + length s) d)))
+    ∙ drop-at (take at d ++ s) (drop (at + length s) d) (at + length s) (put-end d at s h)
 
 pub put-nothing : (d : List ℕ) (at : ℕ) → put d at [] ≡ d
 put-nothing d at = let q : at + 0 ≡ at = omega arith in ap (λ (k : ℕ). take at d ++ drop k d) q ∙ take-append-drop at d
@@ -50,6 +64,9 @@ put-next d b at i h f =
 -- what a writer has done: it ends past the text, and the buffer has the text
 abbrev pub Put : List ℕ → ℕ → List ℕ → ℕ → List ℕ → Type 0
 Put d at s r e = (r ≡ at + length s) × (e ≡ put d at s)
+
+pub put-keeps : (d : List ℕ) (at : ℕ) (s : List ℕ) (r : ℕ) (e : List ℕ) → Put d at s r e → at + length s ≤ length d → length e ≡ length d
+put-keeps d at s r e p h = ap length (p .1) ∙ length-put d at s h
 
 -- a text and then another
 pub put-then : (d : List ℕ) (at : ℕ) (s t : List ℕ) (r : ℕ) (e : List ℕ) (r′ : ℕ) (e′ : List ℕ)

@@ -2,7 +2,11 @@
 use Prim.Native.Nat.{ℕ, _+_, _≤_}
 use mathlib.Core.Path.{_≡_}
 use mathlib.Core.List.{List, [], _∷_, _++_}
-use lib.ListN.{length}
+use lib.ListN.{length, take}
+
+-- n counts elements at the start of a list. The second part follows from the first: with it a caller lends `&buffer[..n]` without a proof
+abbrev pub Counts : ℕ → List ℕ → Type 0
+Counts n xs = (n ≤ length xs) × (n ≡ length (take n xs))
 
 -- pieces one after the other
 abbrev pub join : List (List ℕ) → List ℕ

@@ -5,7 +5,7 @@ use mathlib.Core.Bool.{Bool, true, false, cond, not, _&&_, true≢false}
 use mathlib.Core.List.{List, [], _∷_, _++_, map}
 use mathlib.Core.Logic.{_⊎_, inl, inr}
 use Prim.Native.Nat.{ℕ, zero, suc, _+_, _-_, _≤_, _<_}
-use native.Mathlib.Nat.{lt-irrefl}
+use native.Mathlib.Nat.{lt-irrefl, le-refl}
 use native.Mathlib.Omega.{arith}
 use lib.Dec.{eqb, leb}
 use borrow.Author.Tests.{eq-eqb, ne-eqb, le-leb, lt-leb, not-false}
@@ -21,7 +21,7 @@ use Rattle.region_file.proofs.Chain.{Linked, linked}
 use Rattle.visits.specs.declared.place.Visit.{Visit}
 use Rattle.visits.specs.declared.place.Place.{Place}
 use Rattle.visits.specs.Visits.{planned, position-of, visit, run, numbers, of-records}
-use Rattle.visits.specs.Place.{listable, from, to-come, position-outcome, leading-to, past}
+use Rattle.visits.specs.Place.{listable, from, to-come, position-outcome, leading-to, ended, past}
 
 -- a run of some visits, and of none
 run-more : (n : ℕ) (r : Record) (i k : ℕ) → 0 < k → run n r i k ≡ visit n r i ∷ run n r (i + 1) (k - 1)
@@ -153,6 +153,9 @@ pub leading-comes : (file : List ℕ) (next links : ℕ) → to-come file (leadi
 leading-comes file next links =
     let none : leading-to next links .planned .count ≤ leading-to next links .index = omega arith in
     to-come-next file (leading-to next links) (leading-within next links) none
+
+pub ended-comes : (file : List ℕ) → to-come file ended ≡ []
+ended-comes file = leading-comes file 0 0 ∙ from-over file 0 0 (le-refl 0)
 
 -- ---- an accepted file
 

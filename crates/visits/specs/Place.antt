@@ -47,8 +47,6 @@ abbrev pub of-opened : List ℕ → Opened → Outcome (List Visit)
 of-opened file (opened.Open p) = accepted (to-come file p)
 of-opened file (opened.Refused why) = of-refusal why
 
--- ---- inner promises
-
 -- a place behind a record without visits, from which the chain goes on at the number `next`
 abbrev pub leading-to : ℕ → ℕ → Place
 leading-to next links = record {
@@ -62,6 +60,12 @@ leading-to next links = record {
   index = 0;
   links = links;
 }
+
+-- and a place from which nothing is to come
+abbrev pub ended : Place
+ended = leading-to 0 0
+
+-- ---- inner promises
 
 -- where the visit with index i of a record lies, or 10
 abbrev pub position-outcome : Record → ℕ → Outcome Position

@@ -9,7 +9,7 @@ use stage::Placed;
 ghost use mathlib.Core.Path.{_≡_};
 ghost use Rattle.visits.specs.Visits.{visits-outcome};
 ghost use Rattle.stage.specs.Region.{of-placed};
-ghost use Rattle.visits.specs.Place.{position-outcome, here, Gives, of-opened};
+ghost use Rattle.visits.specs.Place.{position-outcome, here, Gives, of-opened, ended};
 
 // The number of the record, an index in it, and the position in µm.
 pub struct Visit {
@@ -98,6 +98,13 @@ impl Place {
             Judgement::Refused(why) => Opened::Refused(why),
             Judgement::Accepted => Opened::Open(leading_to(region_file::first_record(file), 2048)),
         }
+    }
+
+    // A place that has ended, in every file.
+    pub fn ended() -> Place
+        ensures { λ r. ⌜ r ≡ ended ⌝ }
+    {
+        leading_to(0, 0)
     }
 
     // The next visit and the place past it, whatever the file and the place.

@@ -3,15 +3,15 @@
 use mathlib.Core.Path.{_≡_, sym, ap, _∙_, subst}
 use mathlib.Core.List.{List, []}
 use mathlib.Core.Logic.{inl, inr}
-use Prim.Native.Nat.{ℕ, _-_, _^_, _≤_, _<_, zero-le}
+use Prim.Native.Nat.{ℕ, _-_, _^_, _≤_, _<_}
 use native.Mathlib.Omega.{arith}
 use denote.Ref.{now}
 use borrow.Author.Needs.{needs}
 use borrow.Author.Tests.{not-true, not-false}
 use Rattle.region_file.specs.declared.fields.Record.{Record}
 use Rattle.visits.specs.declared.place.Place.{Place}
-use Rattle.visits.specs.Place.{from, to-come, leading-to, Found}
-use Rattle.visits.proofs.Coming.{from-over, from-stop, from-empty, start-of, start-comes, leading-comes}
+use Rattle.visits.specs.Place.{from, to-come, ended, Found}
+use Rattle.visits.proofs.Coming.{from-over, from-stop, from-empty, start-of, start-comes, ended-comes}
 use Rattle.visits.proofs.chain.found.Statement.{statement}
 use Rattle.visits.proofs.chain.found.Tie as tie
 use Rattle.visits.proofs.chain.found.Reads as reads
@@ -39,9 +39,9 @@ leading-to-requires : tie.Need-leading-to-requires Inv-loop μ-loop
 leading-to-requires c κs = search needs
 
 -- a place that has ended, where nothing is to come
-none : (file : List ℕ) (start links : ℕ) (p : Place) → p ≡ leading-to 0 0 → from file links start ≡ [] → Found file start links p
+none : (file : List ℕ) (start links : ℕ) (p : Place) → p ≡ ended → from file links start ≡ [] → Found file start links p
 none file start links p e h =
-    let c = ap (to-come file) e ∙ leading-comes file 0 0 ∙ from-over file 0 0 zero-le in
+    let c = ap (to-come file) e ∙ ended-comes file in
     record { same = c ∙ sym h; ready = inr c }
 
 -- src/chain.rt:62:13

@@ -1,0 +1,118 @@
+-- `cursors::put_lead` meets its contract.
+-- Assumes nothing.
+use mathlib.Core.Path.{_≡_, refl, sym, _∙_, subst}
+use mathlib.Core.List.{List, [], _∷_}
+use Prim.Native.Nat.{ℕ}
+use native.Mathlib.Nat.{zero-add}
+use native.Mathlib.Omega.{arith}
+use denote.Ref.{now}
+use lib.ListN.{length}
+use Rattle.text.specs.Decimal.{number-text, longest-number}
+use Rattle.text.specs.Put.{put}
+use Rattle.text.proofs.Puts.{Put, put-nothing, put-keeps, put-then, wrote-put}
+use Rattle.text.proofs.Numbers.{number-longest}
+use Rattle.listing.specs.declared.cursors.Lead.{Lead}
+use Rattle.listing.specs.Listing.{header, refused-word, refused-text}
+use Rattle.listing.specs.Cursor.{lead-text}
+use borrow.Author.Needs.{needs}
+use Rattle.listing.proofs.cursors.put_lead.Statement.{statement}
+use Rattle.listing.proofs.cursors.put_lead.Tie as tie
+use Rattle.listing.proofs.cursors.put_lead.Reads as reads
+use Rattle.listing.proofs.cursors.put_lead.Lts as lts
+use Rattle.text.proofs.bytes.Reads as bytes-reads
+use Rattle.text.proofs.number.Reads as number-reads
+
+-- src/cursors.rt:37:26
+enum-told : tie.Need-enum-told
+enum-told c = search needs
+
+-- src/cursors.rt:38:37
+enum-told-2 : tie.Need-enum-told-2
+enum-told-2 c = search needs
+
+-- src/cursors.rt:38:37
+slice-aggregate-bytes : tie.Need-slice-aggregate-bytes
+slice-aggregate-bytes c = search needs
+
+-- src/cursors.rt:38:25
+bytes-requires : tie.Need-bytes-requires
+bytes-requires c κs = search needs
+
+-- src/cursors.rt:39:23
+enum-known-lead : tie.Need-enum-known-lead
+enum-known-lead c = search needs
+
+-- src/cursors.rt:40:34
+slice-aggregate-bytes-2 : tie.Need-slice-aggregate-bytes-2
+slice-aggregate-bytes-2 c = search needs
+
+-- src/cursors.rt:40:17
+bytes-requires-2 : tie.Need-bytes-requires-2
+bytes-requires-2 c κs = search needs
+
+-- src/cursors.rt:41:13
+number-requires : tie.Need-number-requires
+number-requires c κs = search needs
+
+-- a text put at the start
+abbrev Led : List ℕ → List ℕ → ℕ → List ℕ → Type 0
+Led d s r e = (r ≡ length s) × (e ≡ put d 0 s)
+
+led : (d s : List ℕ) (r : ℕ) (e : List ℕ) → Put d 0 s r e → Led d s r e
+led d s r e p = (p .0 ∙ zero-add (length s), p .1)
+
+-- src/cursors.rt:31:1
+returns : tie.Need-returns
+returns c = let d = now (c .before .before .before .args .out) in subst (λ (k : Lead). Led d (lead-text k) 0 d) (sym (c .enum-told .given .1)) (refl, sym (put-nothing d 0))
+
+-- src/cursors.rt:31:1
+same-length : tie.Need-same-length
+same-length c = search needs
+
+-- src/cursors.rt:31:1
+returns-2 : tie.Need-returns-2
+returns-2 c =
+    let a = c .before .before .before .before .before .before .before .before .args in
+    let d = now (a .out) in
+    let u = c .before .before .bytes in
+    subst (λ (k : Lead). Led d (lead-text k) (u .result) (u .last .1 .0)) (sym (c .before .before .before .before .before .enum-told2 .given .1))
+    (led d header (u .result) (u .last .1 .0) (wrote-put (length header) d 0 header (u .result) (u .last .1 .0) (omega (arith, c .before .before .before .before .before .before .before .before .pre)) (u .ensures)))
+
+-- src/cursors.rt:31:1
+same-length-2 : tie.Need-same-length-2
+same-length-2 c = search needs
+
+-- src/cursors.rt:31:1
+returns-3 : tie.Need-returns-3
+unfolding refused-text
+returns-3 c =
+    let a = c .before .before .before .before .before .before .before .before .before .before .before .before .before .args in
+    let d = now (a .out) in
+    let u = c .before .before .before .before .before .before .bytes2 in
+    let v = c .before .before .number in
+    let n = c .before .before .before .before .before .before .before .before .before .before .lead .given .0 .0 in
+    let p : Put d 0 refused-word (u .result) (u .last .1 .0) = wrote-put 8 d 0 refused-word (u .result) (u .last .1 .0) (omega (arith, c .before .before .before .before .before .before .before .before .before .before .before .before .before .pre)) (u .ensures) in
+    let l : length (u .last .1 .0) ≡ length d = put-keeps d 0 refused-word (u .result) (u .last .1 .0) p (omega (arith, c .before .before .before .before .before .before .before .before .before .before .before .before .before .pre)) in
+    let q : Put (u .last .1 .0) (u .result) (number-text n 10) (v .result) (v .last .1 .1 .0) =
+    wrote-put longest-number (u .last .1 .0) (u .result) (number-text n 10) (v .result) (v .last .1 .1 .0) (omega (arith, c .before .before .before .before .before .before .before .before .before .before .before .before .before .pre, p .0, l)) (v .ensures) in
+    subst (λ (k : Lead). Led d (lead-text k) (v .result) (v .last .1 .1 .0)) (sym (c .before .before .before .before .before .before .before .before .before .before .lead .given .1))
+    (led d (refused-text n) (v .result) (v .last .1 .1 .0)
+    (put-then d 0 refused-word (number-text n 10) (u .result) (u .last .1 .0) (v .result) (v .last .1 .1 .0) p q (omega (arith, c .before .before .before .before .before .before .before .before .before .before .before .before .before .pre, number-longest n 10))))
+
+pub put-lead-spec : {M : Type 1} → statement M
+put-lead-spec =
+    tie.close
+    (tie.spec
+    enum-told
+    enum-told-2
+    slice-aggregate-bytes
+    bytes-requires
+    enum-known-lead
+    slice-aggregate-bytes-2
+    bytes-requires-2
+    number-requires
+    returns
+    same-length
+    returns-2
+    same-length-2
+    returns-3)

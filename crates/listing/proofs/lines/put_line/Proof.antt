@@ -1,0 +1,67 @@
+-- `lines::put_line` meets its contract.
+-- Assumes nothing.
+use mathlib.Core.Path.{subst}
+use denote.Ref.{now}
+use lib.IntN.{ℤ}
+use mir.Syntax.{w32}
+use mir.Val.{SFits}
+use mir.ValLaws.{toZ-ofZ}
+use Rattle.text.specs.Decimal.{signed-text, longest-signed}
+use Rattle.text.proofs.Puts.{Wrote}
+use Rattle.listing.proofs.Putting.{line-put}
+use borrow.Author.Needs.{needs}
+use Rattle.listing.proofs.lines.put_line.Statement.{statement}
+use Rattle.listing.proofs.lines.put_line.Tie as tie
+use Rattle.listing.proofs.lines.put_line.Reads as reads
+use Rattle.listing.proofs.lines.put_line.Lts as lts
+use Rattle.text.proofs.number.Reads as number-reads
+use Rattle.text.proofs.signed_number.Reads as signed-number-reads
+
+-- src/lines.rt:23:9
+number-requires : tie.Need-number-requires
+number-requires c κs = search needs
+
+-- src/lines.rt:24:9
+number-requires-2 : tie.Need-number-requires-2
+number-requires-2 c κs = search needs
+
+-- src/lines.rt:26:9
+signed-number-requires : tie.Need-signed-number-requires
+signed-number-requires c κs = search needs
+
+-- src/lines.rt:28:5
+signed-number-requires-2 : tie.Need-signed-number-requires-2
+signed-number-requires-2 c κs = search needs
+
+-- src/lines.rt:18:1
+same-length : tie.Need-same-length
+same-length c = search needs
+
+-- src/lines.rt:18:1
+returns : tie.Need-returns
+returns c =
+    let a = c .before .before .before .before .before .before .before .before .before .before .before .before .before .before .before .before .before .before .before .args in
+    let v = a .visit in
+    let n = c .before .before .before .before .before .before .before .before .before .before .before .before .before .before .before .before .number in
+    let i = c .before .before .before .before .before .before .before .before .before .before .before .before .number2 in
+    let x = c .before .before .before .before .before .before .before .signed-number in
+    let y = c .before .before .signed-number2 in
+    let fx : SFits w32 (v .x) = search needs in
+    let fy : SFits w32 (v .y) = search needs in
+    line-put v (now (a .out)) (a .at) (n .result) (n .last .1 .1 .0) (i .result) (i .last .1 .1 .0) (x .result) (x .last .1 .1 .0) (y .result) (y .last .1 .1 .0)
+    (c .before .before .before .before .before .before .before .before .before .before .before .before .before .before .before .before .before .before .before .pre)
+    (n .ensures)
+    (i .ensures)
+    (subst (λ (z : ℤ). Wrote longest-signed (i .last .1 .1 .0) (i .result) (signed-text z 32) (x .result) (x .last .1 .1 .0)) (toZ-ofZ w32 (v .x) fx) (x .ensures))
+    (subst (λ (z : ℤ). Wrote longest-signed (x .last .1 .1 .0) (x .result) (signed-text z 10) (y .result) (y .last .1 .1 .0)) (toZ-ofZ w32 (v .y) fy) (y .ensures))
+
+pub put-line-spec : {M : Type 1} → statement M
+put-line-spec =
+    tie.close
+    (tie.spec
+    number-requires
+    number-requires-2
+    signed-number-requires
+    signed-number-requires-2
+    same-length
+    returns)

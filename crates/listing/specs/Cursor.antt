@@ -1,0 +1,16 @@
+-- What is still to come from a cursor, whatever its fields and the file.
+use Prim.Native.Nat.{ℕ}
+use mathlib.Core.List.{List, [], _++_}
+use Rattle.visits.specs.Place.{to-come as visits-to-come}
+use Rattle.listing.specs.declared.cursors.Lead.{Lead}
+use Rattle.listing.specs.declared.cursors.Lead.the-variants as lead
+use Rattle.listing.specs.declared.cursors.Cursor.{Cursor}
+use Rattle.listing.specs.Listing.{header, refused-text, lines}
+
+abbrev pub lead-text : Lead → List ℕ
+lead-text lead.Nothing = []
+lead-text lead.Header = header
+lead-text (lead.Refused n) = refused-text n
+
+unfoldable pub to-come : List ℕ → Cursor → List ℕ
+to-come file c = lead-text (c .lead) ++ lines (visits-to-come file (c .place))

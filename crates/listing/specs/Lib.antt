@@ -1,0 +1,4 @@
+pub mod Listing
+pub mod Cursor
+pub mod Lines
+pub mod Theorem

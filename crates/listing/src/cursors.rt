@@ -1,0 +1,86 @@
+// Where a listing stands, and its next piece.
+use crate::lines::put_lines;
+use visits::Opened;
+use visits::Place;
+ghost use mathlib.Core.Path.{_≡_};
+ghost use Prim.Native.Nat.{_≤_};
+ghost use lib.ListN.{length, take, drop};
+ghost use Rattle.text.specs.Put.{put};
+ghost use Rattle.text.specs.Pieces.{Piece, Counts};
+ghost use Rattle.listing.specs.Listing.{listing, longest-line};
+ghost use Rattle.listing.specs.Cursor.{lead-text, to-come};
+
+// What stands before the lines that are still to come.
+pub enum Lead {
+    Nothing,
+    Header,
+    Refused(u32),
+}
+
+pub struct Cursor {
+    pub lead: Lead,
+    pub place: Place,
+}
+
+// The first len bytes of the buffer are the piece, and next is past it.
+pub struct Page {
+    pub len: usize,
+    pub next: Cursor,
+}
+
+fn put_lead(lead: Lead, out: &mut [u8]) -> usize
+    requires { ⌜ longest-line ≤ length (now out) ⌝ }
+    ensures end { λ r. ⌜ r ≡ length (lead-text lead) ⌝ }
+    ensures text { λ _. ⌜ now (out .exit) ≡ put (now (out .entry)) 0 (lead-text lead) ⌝ }
+{
+    match lead {
+        Lead::Nothing => 0,
+        Lead::Header => text::bytes(b"record visit x y\n", out, 0),
+        Lead::Refused(number) => {
+            let at = text::bytes(b"refused ", out, 0);
+            text::number(number, 10, out, at)
+        }
+    }
+}
+
+impl Cursor {
+    // The start of a file's listing; the whole file is judged here, before any of it is written.
+    pub fn open(file: &[u8]) -> Cursor
+        ensures { λ r. ⌜ to-come (now (file .entry)) r ≡ listing (now (file .entry)) ⌝ }
+    {
+        let opened = Place::open(file);
+        match opened {
+            Opened::Open(place) => Cursor {
+                lead: Lead::Header,
+                place,
+            },
+            Opened::Refused(why) => Cursor {
+                lead: Lead::Refused(why.number()),
+                place: Place::ended(),
+            },
+        }
+    }
+
+    // The next piece, as long as the buffer has room for the longest line; bytes past it keep their content.
+    pub fn page(self, file: &[u8], out: &mut [u8]) -> Page
+        ensures counts { λ r. ⌜ Counts (r .len) (now (out .exit)) ⌝ }
+        ensures piece { λ r. ⌜ Piece (to-come (now (file .entry))) longest-line self (r .next) (take (r .len) (now (out .exit))) (length (now (out .exit))) ⌝ }
+        ensures rest { λ r. ⌜ drop (r .len) (now (out .exit)) ≡ drop (r .len) (now (out .entry)) ⌝ }
+    {
+        if out.len() < 46 {
+            return Page { len: 0, next: self };
+        }
+        let lead = self.lead;
+        let start = self.place;
+        let at = put_lead(lead, out);
+        let filled = put_lines(file, start, out, at);
+        let place = filled.place;
+        Page {
+            len: filled.len,
+            next: Cursor {
+                lead: Lead::Nothing,
+                place,
+            },
+        }
+    }
+}

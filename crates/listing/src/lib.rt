@@ -1,0 +1,8 @@
+// The listing of a region file as text, piece by piece: a cursor that goes from call to call by value. Every call takes any bytes and
+// any cursor.
+mod cursors;
+mod lines;
+
+pub use cursors::Cursor;
+pub use cursors::Lead;
+pub use cursors::Page;

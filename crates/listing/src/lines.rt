@@ -1,0 +1,49 @@
+// The lines of visits, as many as have room.
+use visits::Place;
+use visits::Step;
+use visits::Visit;
+ghost use mathlib.Core.Path.{_≡_};
+ghost use Prim.Native.Nat.{_+_, _≤_};
+ghost use lib.ListN.{length};
+ghost use Rattle.text.specs.Put.{put};
+ghost use Rattle.listing.specs.Listing.{line, longest-line};
+ghost use Rattle.listing.specs.Lines.{LinesPut};
+
+pub(crate) struct Filled {
+    pub len: usize,
+    pub place: Place,
+}
+
+// Four fields, one space between, and a line feed.
+fn put_line(visit: Visit, out: &mut [u8], at: usize) -> usize
+    requires { ⌜ at + longest-line ≤ length (now out) ⌝ }
+    ensures end { λ r. ⌜ r ≡ at + length (line visit) ⌝ }
+    ensures text { λ _. ⌜ now (out .exit) ≡ put (now (out .entry)) at (line visit) ⌝ }
+{
+    let second = text::number(visit.number, 32, out, at);
+    let third = text::number(visit.index, 32, out, second);
+    let x = visit.x;
+    let fourth = text::signed_number(x, 32, out, third);
+    let y = visit.y;
+    text::signed_number(y, 10, out, fourth)
+}
+
+// The lines to come from a place, each while the longest line has room.
+pub(crate) fn put_lines(file: &[u8], start: Place, out: &mut [u8], at: usize) -> Filled
+    requires { ⌜ at ≤ length (now out) ⌝ }
+    ensures { λ r. ⌜ LinesPut (now (file .entry)) start (now (out .entry)) at (r .place) (now (out .exit)) (r .len) ⌝ }
+{
+    let mut place = start;
+    let mut len = at;
+    while out.len() - len >= 46 {
+        let stepped = place.step(file);
+        let answer = stepped.step;
+        let next = stepped.place;
+        place = next;
+        let Step::Visited(visit) = answer else {
+            return Filled { len, place };
+        };
+        len = put_line(visit, out, len);
+    }
+    Filled { len, place }
+}
