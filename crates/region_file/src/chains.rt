@@ -23,12 +23,12 @@ fn judge_link(file: &[u8], n: u32, seen: bool, limit: u32) -> Judgement
     if seen {
         return Judgement::Refused(Refusal::ChainReturns);
     }
-    let record = record_at(file, n);
-    let region = record.region;
+    let named = record_at(file, n);
+    let region = named.region;
     if !region.within() {
         return Judgement::Refused(Refusal::Region);
     }
-    if limit < record.count {
+    if limit < named.count {
         return Judgement::Refused(Refusal::VisitCount);
     }
     Judgement::Accepted
@@ -58,8 +58,8 @@ pub(crate) fn judge_chain(file: &[u8], limit: u32) -> Judgement
             return Judgement::Refused(why);
         }
         marks[at] = 1;
-        let record = record_at(file, n);
-        n = record.next;
+        let passed = record_at(file, n);
+        n = passed.next;
     }
     Judgement::Accepted
 }

@@ -4,6 +4,7 @@ use mathlib.Core.Path.{_≡_, sym, ap, ap₂, _∙_}
 use mathlib.Core.Bool.{true, false, not}
 use mathlib.Core.List.{[]}
 use lib.IntN.{ℤ}
+use native.Mathlib.Omega.{arith}
 use borrow.Author.Tests.{not-false}
 use Rattle.refusal.specs.Outcome.{accepted}
 use Rattle.refusal.proofs.First.{first-none, first-refuses, first-passes}
@@ -36,13 +37,13 @@ of x y = record { x = x; y = y }
 position-requires : tie.Need-position-requires
 position-requires c κs =
     let w = limits (c .before) in
-    (edge-read (c .before .before .before .before .args .self .left) (search needs) (w .left), w .width)
+    (edge-read (c .before .before .before .before .args .self .left) (search needs) (w .left), omega (arith, w .width))
 
 -- src/regions.rt:56:16
 position-requires-2 : tie.Need-position-requires-2
 position-requires-2 c κs =
     let w = limits (c .before .before) in
-    (edge-read (c .before .before .before .before .before .args .self .top) (search needs) (w .top), w .height)
+    (edge-read (c .before .before .before .before .before .args .self .top) (search needs) (w .top), omega (arith, w .width, w .height))
 
 -- src/regions.rt:46:5
 returns-2 : tie.Need-returns-2
