@@ -94,3 +94,9 @@ module _ {A B : Type 0} {o : Outcome A} (after : Outcome B) where
   pub then-refused : {n : ℕ} {vs : List ℕ} → o ≡ refused n vs → then o after ≡ refused n vs
   unfolding then
   then-refused e = ap (λ (p : Outcome A). then p after) e
+
+-- what comes after is what is accepted in the end
+pub then-same : {A B : Type 0} (o : Outcome A) (a : B) {b : B} → then o (accepted a) ≡ accepted b → b ≡ a
+unfolding then
+then-same (accepted c) a e = sym (accepted-same e)
+then-same (refused n vs) a e = absurd (accepted-refused (sym e))

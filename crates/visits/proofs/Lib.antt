@@ -1,2 +1,3 @@
 pub mod Coming
 pub mod Steps
+pub mod Theorem

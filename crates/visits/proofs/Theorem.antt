@@ -1,0 +1,33 @@
+-- What users rely on.
+-- Assumes nothing.
+use Prim.Native.Nat.{ℕ, suc}
+use mathlib.Core.Path.{_≡_, refl, sym, ap, _∙_}
+use mathlib.Core.List.{List, [], _∷_}
+use lib.ListN.{length}
+use Rattle.refusal.proofs.First.{then-same}
+use Rattle.region_file.specs.Judge.{judge-outcome, most-visits}
+use Rattle.visits.specs.declared.place.Place.{Place}
+use Rattle.visits.specs.declared.place.Step.{Step}
+use Rattle.visits.specs.declared.place.Step.the-variants as step
+use Rattle.visits.specs.Visits.{visits}
+use Rattle.visits.specs.Place.{to-come, Gives}
+use Rattle.visits.specs.Theorem.{Steps, none, more, answers, Theorems}
+
+-- the first answer and the others
+first-then : (file : List ℕ) (p q : Place) (s : Step) (ss : List Step) → Gives file p s q → ss ≡ answers (length ss) (to-come file q)
+    → s ∷ ss ≡ answers (suc (length ss)) (to-come file p)
+unfolding answers
+first-then file p q (step.Visited v) ss g e = ap (λ (l : List Step). step.Visited v ∷ l) e ∙ sym (ap (answers (suc (length ss))) g)
+first-then file p q step.Ended ss g e =
+    ap (λ (l : List Step). step.Ended ∷ l) (e ∙ ap (answers (length ss)) (g .1)) ∙ sym (ap (answers (suc (length ss))) (g .0))
+
+steps : (file : List ℕ) (p q : Place) (ss : List Step) → Steps file p ss q → ss ≡ answers (length ss) (to-come file p)
+unfolding answers
+steps file p q ss (none _) = refl
+steps file p q ss (more _ r _ s others g run) = first-then file p r s others g (steps file r q others run)
+
+pub theorems : Theorems
+theorems = record {
+  steps = steps;
+  listed = λ file p q ss e run. steps file p q ss run ∙ ap (answers (length ss)) (then-same (judge-outcome most-visits file) (visits file) (sym e));
+}

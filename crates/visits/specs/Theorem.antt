@@ -1,0 +1,30 @@
+-- What users rely on: the steps from an opened file give its visits, one after the other, and then the end.
+use Prim.Native.Nat.{ℕ, zero, suc}
+use mathlib.Core.Path.{_≡_}
+use mathlib.Core.List.{List, [], _∷_}
+use lib.ListN.{length}
+use Rattle.visits.specs.declared.place.Visit.{Visit}
+use Rattle.visits.specs.declared.place.Place.{Place}
+use Rattle.visits.specs.declared.place.Step.{Step}
+use Rattle.visits.specs.declared.place.Step.the-variants as step
+use Rattle.visits.specs.declared.place.Opened.the-variants as opened
+use Rattle.visits.specs.Visits.{visits, visits-outcome}
+use Rattle.visits.specs.Place.{to-come, Gives, of-opened}
+
+-- steps one after the other, each from the place that the one before handed back
+pub data Steps (file : List ℕ) : Place → List Step → Place → Type 0 where
+  none : (p : Place) → Steps file p [] p
+  more : (p q r : Place) (s : Step) (ss : List Step) → Gives file p s q → Steps file q ss r → Steps file p (s ∷ ss) r
+
+-- what n steps give where these visits are to come: the visits, and the end in every step after them
+unfoldable pub answers : ℕ → List Visit → List Step
+answers zero vs = []
+answers (suc n) [] = step.Ended ∷ answers n []
+answers (suc n) (v ∷ vs) = step.Visited v ∷ answers n vs
+
+pub record Theorems : Type 0 where
+  -- from any place in any file
+  pub steps : (file : List ℕ) (p q : Place) (ss : List Step) → Steps file p ss q → ss ≡ answers (length ss) (to-come file p)
+  -- ONE claim about the list of steps from the place that `open` gives
+  pub listed : (file : List ℕ) (p q : Place) (ss : List Step) → of-opened file (opened.Open p) ≡ visits-outcome file → Steps file p ss q
+      → ss ≡ answers (length ss) (visits file)
