@@ -1,5 +1,5 @@
 -- The one proof of the table of known points: the definitions compute them. Assumes nothing.
-use mathlib.Core.Path.{_≡_, refl, sym, ap, subst}
+use mathlib.Core.Path.{refl, sym, ap, subst}
 use lib.Count.{leadingZeros}
 use lib.Ieee.{ofBits, toBits}
 use Rattle.digits.specs.Digits.{digitwise, plus, times}
@@ -13,7 +13,7 @@ use Rattle.net.proofs.Standard.{iterate, add-down, iterated}
 use Rattle.net.proofs.Columns.{standard-is}
 use Rattle.refusal.specs.Outcome.{first, granted}
 use Rattle.plan.specs.declared.pair.Plan.{Plan}
-use Rattle.plan.specs.Pair.{of-matrices, standard-pair}
+use Rattle.plan.specs.Pair.{of-matrices}
 use Rattle.known_table.specs.Known.{All, table, KnownPoints}
 
 -- the standard pair in the form that computes fast, each column from the one before

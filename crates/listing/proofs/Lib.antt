@@ -1,2 +1,3 @@
 pub mod Putting
 pub mod Theorem
+pub mod Examples

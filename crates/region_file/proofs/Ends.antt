@@ -4,7 +4,6 @@ use mathlib.Core.Path.{_≡_, refl, sym, ap, _∙_}
 use mathlib.Core.Bool.{Bool, true, false, cond}
 use mathlib.Core.List.{List}
 use Prim.Native.Nat.{ℕ, zero, suc, _≤_, _<_}
-use native.Mathlib.Nat.{le-refl}
 use native.Mathlib.Omega.{arith}
 use lib.Dec.{eqb}
 use lib.ListN.{length, getD, set, replicate, length-set, length-replicate}
@@ -13,7 +12,7 @@ use borrow.Author.Tests.{eqb-false}
 use Rattle.refusal.specs.Outcome.{Outcome, accepted, refused, Test, first}
 use Rattle.refusal.proofs.First.{refused-before, passed-before}
 use Rattle.region_file.specs.Fields.{record-at, records, most-records}
-use Rattle.region_file.specs.Judge.{whole, nowhere, also, link-tests, chain}
+use Rattle.region_file.specs.Judge.{also, link-tests, chain}
 use Rattle.region_file.specs.Theorem.{ChainsEnd}
 use Rattle.region_file.proofs.Chain.{Passed, passed, whole-few}
 use Rattle.region_file.proofs.Marks.{marked, free, free-fresh, fresh-at, marked-fresh, free-set, free-some, marked-set, unmarked}

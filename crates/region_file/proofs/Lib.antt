@@ -2,4 +2,6 @@ pub mod Zeros
 pub mod Marks
 pub mod Chain
 pub mod Ends
+pub mod OnChain
 pub mod Theorem
+pub mod Examples

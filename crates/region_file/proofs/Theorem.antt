@@ -2,6 +2,7 @@
 -- Assumes nothing.
 use Rattle.region_file.specs.Theorem.{Theorems}
 use Rattle.region_file.proofs.Ends.{chains-end}
+use Rattle.region_file.proofs.OnChain.{only-the-chain}
 
 pub theorems : Theorems
-theorems = record { chains-end = chains-end }
+theorems = record { chains-end = chains-end; only-the-chain = only-the-chain }

@@ -1,16 +1,31 @@
--- What users rely on: every chain ends within the number of links that its judgement looks at.
+-- What users rely on: every chain ends within the number of links that its judgement looks at, and nothing off the chain is looked at.
 use Prim.Native.Nat.{ℕ, _≤_}
 use mathlib.Core.Path.{_≡_}
 use mathlib.Core.Bool.{true}
 use mathlib.Core.List.{List}
 use lib.ListN.{length}
-use Rattle.region_file.specs.Fields.{most-records}
-use Rattle.region_file.specs.Judge.{whole, nowhere, chain}
+use Rattle.region_file.specs.Fields.{record-at, first-record, level, zeros, most-records}
+use Rattle.region_file.specs.Judge.{whole, nowhere, chain, judge-outcome}
 
 -- a judgement that looks at more links comes to the same
 abbrev pub ChainsEnd : Type 0
 ChainsEnd = (limit : ℕ) (file : List ℕ) (links n : ℕ) → whole (length file) ≡ true → most-records ≤ links
     → chain limit file links nowhere n ≡ chain limit file most-records nowhere n
 
-pub record Theorems : Type 0 where
+-- two files whose record 0 is judged the same, and that agree at each record of a chain: `On` holds of its numbers
+pub record SameOnChain (file other : List ℕ) (On : ℕ → Type 0) : Type 0 where
+  pub bytes : length file ≡ length other
+  pub levels : level file ≡ level other
+  pub reserved : zeros file 8 24 ≡ zeros other 8 24
+  pub firsts : first-record file ≡ first-record other
+  pub begins : On (first-record file)
+  pub goes-on : (n : ℕ) → On n → (n ≡ 0 → ⊥) → On (record-at file n .next)
+  pub records-same : (n : ℕ) → On n → (n ≡ 0 → ⊥) → record-at file n ≡ record-at other n
+
+-- such files are judged the same, whatever else they hold
+abbrev pub OnlyTheChain : Type 1
+OnlyTheChain = (limit : ℕ) (file other : List ℕ) (On : ℕ → Type 0) → SameOnChain file other On → judge-outcome limit file ≡ judge-outcome limit other
+
+pub record Theorems : Type 1 where
   pub chains-end : ChainsEnd
+  pub only-the-chain : OnlyTheChain

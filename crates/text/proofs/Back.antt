@@ -1,13 +1,13 @@
 -- Decimal text reads back as its number.
 -- Assumes nothing.
-use mathlib.Core.Path.{_≡_, refl, sym, ap, _∙_}
-use mathlib.Core.Logic.{⊎-elim}
+use mathlib.Core.Path.{_≡_, refl, ap, _∙_}
 use mathlib.Core.Bool.{Bool, true, false, cond}
 use mathlib.Core.List.{List, [], _∷_, _++_}
 use Prim.Native.Nat.{ℕ, zero, suc, _+_, _-_, _*_, _/_, _%_, _^_, _≤_, _<_}
 use native.Mathlib.Nat.{div-lt-iff-lt-mul, lt-of-lt-of-le, pow-suc}
 use native.Mathlib.Omega.{arith}
 use lib.Dec.{ltb, lit<, lit≤}
+use lib.ListN.{getD}
 use borrow.Author.Tests.{ltb-true, ltb-false}
 use Rattle.text.specs.Decimal.{decimal-in, decimal}
 use Rattle.text.specs.Theorem.{value, AllDigits}
@@ -18,15 +18,16 @@ unfolding value
 value-last before [] d = refl
 value-last before (e ∷ ds) d = value-last (before * 10 + (e - 48)) ds d
 
+-- a digit fewer
+fewer : (f n : ℕ) → n < 10 ^ suc (suc f) → n / 10 < 10 ^ suc f
+fewer f n h = let p : 10 ^ suc (suc f) ≡ 10 ^ suc f * 10 = pow-suc 10 (suc f) in div-lt-iff-lt-mul (lit< tt) .1 (omega (arith, p, h))
+
 -- n of at most f + 1 digits
 reads : (f n : ℕ) → n < 10 ^ suc f → value 0 (decimal-in f n) ≡ n
 unfolding decimal-in value
 reads zero n h = omega arith
 reads (suc f) n h = go (ltb n 10) refl (reads f (n / 10) (fewer f n h))
   where
-    fewer : (f n : ℕ) → n < 10 ^ suc (suc f) → n / 10 < 10 ^ suc f
-    fewer f n h = let p : 10 ^ suc (suc f) ≡ 10 ^ suc f * 10 = pow-suc 10 (suc f) in div-lt-iff-lt-mul (lit< tt) .1 (omega (arith, p, h))
-
     back : (n : ℕ) → n / 10 * 10 + (48 + n % 10 - 48) ≡ n
     back n = omega arith
 
@@ -35,8 +36,28 @@ reads (suc f) n h = go (ltb n 10) refl (reads f (n / 10) (fewer f n h))
     go true e r = omega arith
     go false e r = value-last 0 (decimal-in f (n / 10)) (48 + n % 10) ∙ ap (λ (v : ℕ). v * 10 + (48 + n % 10 - 48)) r ∙ back n
 
+head-append : (xs ys : List ℕ) → 48 < getD xs 0 0 → 48 < getD (xs ++ ys) 0 0
+head-append [] ys h = absurd (omega arith)
+head-append (x ∷ xs) ys h = h
+
+leads : (f n : ℕ) → 0 < n → n < 10 ^ suc f → 48 < getD (decimal-in f n) 0 0
+unfolding decimal-in
+leads zero n p h = omega arith
+leads (suc f) n p h = go (ltb n 10) refl (λ q. leads f (n / 10) q (fewer f n h))
+  where
+    some : (n : ℕ) → 10 ≤ n → 0 < n / 10
+    some n h = omega arith
+
+    go : (b : Bool) → ltb n 10 ≡ b → (0 < n / 10 → 48 < getD (decimal-in f (n / 10)) 0 0)
+        → 48 < getD (cond b ((48 + n) ∷ []) (decimal-in f (n / 10) ++ ((48 + n % 10) ∷ []))) 0 0
+    go true e more = omega arith
+    go false e more = head-append (decimal-in f (n / 10)) ((48 + n % 10) ∷ []) (more (some n (ltb-false n 10 e)))
+
 pub reads-back : (n : ℕ) → n < 2 ^ 32 → value 0 (decimal n) ≡ n
 reads-back n h = reads 9 n (lt-of-lt-of-le h (lit≤ tt))
+
+pub no-zero-leads : (n : ℕ) → 0 < n → n < 2 ^ 32 → 48 < getD (decimal n) 0 0
+no-zero-leads n p h = leads 9 n p (lt-of-lt-of-le h (lit≤ tt))
 
 digits-append : (ds es : List ℕ) → AllDigits ds → AllDigits es → AllDigits (ds ++ es)
 digits-append [] es p q = q

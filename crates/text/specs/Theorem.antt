@@ -1,7 +1,8 @@
 -- What users rely on: decimal text reads back as its number, and pieces joined are the text.
-use Prim.Native.Nat.{ℕ, zero, suc, _+_, _-_, _*_, _^_, _≤_, _<_}
+use Prim.Native.Nat.{ℕ, zero, _+_, _-_, _*_, _^_, _≤_, _<_}
 use mathlib.Core.Path.{_≡_}
 use mathlib.Core.List.{List, [], _∷_, _++_}
+use lib.ListN.{getD}
 use Rattle.text.specs.Decimal.{decimal}
 use Rattle.text.specs.Pieces.{join, Piece, Pieces}
 
@@ -19,6 +20,8 @@ AllDigits (d ∷ ds) = ((48 ≤ d) × (d ≤ 57)) × AllDigits ds
 pub record Decimal : Type 0 where
   pub reads-back : (n : ℕ) → n < 2 ^ 32 → value 0 (decimal n) ≡ n
   pub all-digits : (n : ℕ) → AllDigits (decimal n)
+  -- no zero leads, unless the number is 0
+  pub no-zero-leads : (n : ℕ) → 0 < n → n < 2 ^ 32 → 48 < getD (decimal n) 0 0
 
 -- whatever the cursors are
 pub record Joined : Type 1 where

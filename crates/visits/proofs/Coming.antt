@@ -1,7 +1,7 @@
 -- What is to come from a place, by the cases of the code, and of an accepted file.
 -- Assumes nothing.
 use mathlib.Core.Path.{_≡_, refl, sym, ap, _∙_}
-use mathlib.Core.Bool.{Bool, true, false, cond, not, _&&_, true≢false}
+use mathlib.Core.Bool.{Bool, true, false, not, _&&_, true≢false}
 use mathlib.Core.List.{List, [], _∷_, _++_, map}
 use mathlib.Core.Logic.{_⊎_, inl, inr}
 use Prim.Native.Nat.{ℕ, zero, suc, _+_, _-_, _≤_, _<_}
@@ -15,7 +15,7 @@ use Rattle.refusal.proofs.First.{first-none, first-passes, first-accepted, acce
 use Rattle.stage.specs.declared.regions.Position.{Position}
 use Rattle.stage.specs.Region.{within}
 use Rattle.region_file.specs.declared.fields.Record.{Record}
-use Rattle.region_file.specs.Fields.{record-at, records}
+use Rattle.region_file.specs.Fields.{records}
 use Rattle.region_file.specs.Judge.{chain}
 use Rattle.region_file.proofs.Chain.{Linked, linked}
 use Rattle.visits.specs.declared.place.Visit.{Visit}

@@ -1,7 +1,7 @@
 -- `cursors::put_lead` meets its contract.
 -- Assumes nothing.
 use mathlib.Core.Path.{_≡_, refl, sym, _∙_, subst}
-use mathlib.Core.List.{List, [], _∷_}
+use mathlib.Core.List.{List}
 use Prim.Native.Nat.{ℕ}
 use native.Mathlib.Nat.{zero-add}
 use native.Mathlib.Omega.{arith}
@@ -17,40 +17,28 @@ use Rattle.listing.specs.Cursor.{lead-text}
 use borrow.Author.Needs.{needs}
 use Rattle.listing.proofs.cursors.put_lead.Statement.{statement}
 use Rattle.listing.proofs.cursors.put_lead.Tie as tie
-use Rattle.listing.proofs.cursors.put_lead.Reads as reads
-use Rattle.listing.proofs.cursors.put_lead.Lts as lts
-use Rattle.text.proofs.bytes.Reads as bytes-reads
-use Rattle.text.proofs.number.Reads as number-reads
 
--- src/cursors.rt:37:26
 enum-told : tie.Need-enum-told
 enum-told c = search needs
 
--- src/cursors.rt:38:37
 enum-told-2 : tie.Need-enum-told-2
 enum-told-2 c = search needs
 
--- src/cursors.rt:38:37
 slice-aggregate-bytes : tie.Need-slice-aggregate-bytes
 slice-aggregate-bytes c = search needs
 
--- src/cursors.rt:38:25
 bytes-requires : tie.Need-bytes-requires
 bytes-requires c κs = search needs
 
--- src/cursors.rt:39:23
 enum-known-lead : tie.Need-enum-known-lead
 enum-known-lead c = search needs
 
--- src/cursors.rt:40:34
 slice-aggregate-bytes-2 : tie.Need-slice-aggregate-bytes-2
 slice-aggregate-bytes-2 c = search needs
 
--- src/cursors.rt:40:17
 bytes-requires-2 : tie.Need-bytes-requires-2
 bytes-requires-2 c κs = search needs
 
--- src/cursors.rt:41:13
 number-requires : tie.Need-number-requires
 number-requires c κs = search needs
 
@@ -61,15 +49,12 @@ Led d s r e = (r ≡ length s) × (e ≡ put d 0 s)
 led : (d s : List ℕ) (r : ℕ) (e : List ℕ) → Put d 0 s r e → Led d s r e
 led d s r e p = (p .0 ∙ zero-add (length s), p .1)
 
--- src/cursors.rt:31:1
 returns : tie.Need-returns
 returns c = let d = now (c .before .before .before .args .out) in subst (λ (k : Lead). Led d (lead-text k) 0 d) (sym (c .enum-told .given .1)) (refl, sym (put-nothing d 0))
 
--- src/cursors.rt:31:1
 same-length : tie.Need-same-length
 same-length c = search needs
 
--- src/cursors.rt:31:1
 returns-2 : tie.Need-returns-2
 returns-2 c =
     let a = c .before .before .before .before .before .before .before .before .args in
@@ -78,11 +63,9 @@ returns-2 c =
     subst (λ (k : Lead). Led d (lead-text k) (u .result) (u .last .1 .0)) (sym (c .before .before .before .before .before .enum-told2 .given .1))
     (led d header (u .result) (u .last .1 .0) (wrote-put (length header) d 0 header (u .result) (u .last .1 .0) (omega (arith, c .before .before .before .before .before .before .before .before .pre)) (u .ensures)))
 
--- src/cursors.rt:31:1
 same-length-2 : tie.Need-same-length-2
 same-length-2 c = search needs
 
--- src/cursors.rt:31:1
 returns-3 : tie.Need-returns-3
 unfolding refused-text
 returns-3 c =

@@ -12,32 +12,22 @@ use Rattle.listing.proofs.Putting.{line-put}
 use borrow.Author.Needs.{needs}
 use Rattle.listing.proofs.lines.put_line.Statement.{statement}
 use Rattle.listing.proofs.lines.put_line.Tie as tie
-use Rattle.listing.proofs.lines.put_line.Reads as reads
-use Rattle.listing.proofs.lines.put_line.Lts as lts
-use Rattle.text.proofs.number.Reads as number-reads
-use Rattle.text.proofs.signed_number.Reads as signed-number-reads
 
--- src/lines.rt:23:9
 number-requires : tie.Need-number-requires
 number-requires c κs = search needs
 
--- src/lines.rt:24:9
 number-requires-2 : tie.Need-number-requires-2
 number-requires-2 c κs = search needs
 
--- src/lines.rt:26:9
 signed-number-requires : tie.Need-signed-number-requires
 signed-number-requires c κs = search needs
 
--- src/lines.rt:28:5
 signed-number-requires-2 : tie.Need-signed-number-requires-2
 signed-number-requires-2 c κs = search needs
 
--- src/lines.rt:18:1
 same-length : tie.Need-same-length
 same-length c = search needs
 
--- src/lines.rt:18:1
 returns : tie.Need-returns
 returns c =
     let a = c .before .before .before .before .before .before .before .before .before .before .before .before .before .before .before .before .before .before .before .args in

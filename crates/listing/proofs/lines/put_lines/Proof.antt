@@ -15,10 +15,6 @@ use Rattle.listing.specs.Listing.{line, lines}
 use Rattle.listing.proofs.Putting.{line-longest, line-some, lines-more, joined, beyond}
 use Rattle.listing.proofs.lines.put_lines.Statement.{statement}
 use Rattle.listing.proofs.lines.put_lines.Tie as tie
-use Rattle.listing.proofs.lines.put_lines.Reads as reads
-use Rattle.listing.proofs.lines.put_lines.Lts as lts
-use Rattle.listing.proofs.lines.put_line.Reads as put-line-reads
-use Rattle.visits.proofs.place.Place.step.Reads as step-reads
 
 abbrev Inv-loop : tie.InvT-loop
 Inv-loop file out₀ at place₀ len₀ out place len =
@@ -31,31 +27,24 @@ Inv-loop file out₀ at place₀ len₀ out place len =
 abbrev μ-loop : tie.MeasureT-loop
 μ-loop file out₀ at place₀ len₀ out place len = length out - len
 
--- src/lines.rt:38:5
 loop-holds : tie.Need-loop-holds Inv-loop μ-loop
 loop-holds c = (le-refl (c .before .before .args .at), c .before .before .pre, refl, refl, refl)
 
--- src/lines.rt:38:11
 sub-loop : tie.Need-sub-loop Inv-loop μ-loop
 sub-loop c = search needs
 
--- src/lines.rt:39:13
 step-requires : tie.Need-step-requires Inv-loop μ-loop
 step-requires c κs = search needs
 
--- src/lines.rt:43:27
 enum-known-answer : tie.Need-enum-known-answer Inv-loop μ-loop
 enum-known-answer c = search needs
 
--- src/lines.rt:44:13
 enum-told : tie.Need-enum-told Inv-loop μ-loop
 enum-told c = search needs
 
--- src/lines.rt:44:13
 same-length : tie.Need-same-length Inv-loop μ-loop
 same-length c = c .before .before .before .before .before .loop .inv .2
 
--- src/lines.rt:44:13
 returns : tie.Need-returns Inv-loop μ-loop
 returns c =
     let a = c .before .before .before .before .before .before .before .before .args in
@@ -71,18 +60,15 @@ returns c =
       beyond = l .inv .4;
     }
 
--- src/lines.rt:46:9
 put-line-requires : tie.Need-put-line-requires Inv-loop μ-loop
 put-line-requires c κs = omega (arith, c .before .before .before .before .before .before .before .loop .inv .1, c .before .before .before .before .before .before .loop-test .taken)
 
--- src/lines.rt:38:5
 loop-less : tie.Need-loop-less Inv-loop μ-loop
 loop-less c =
     let l = c .before .before .before .before .before .before .before .before .before .before .loop in
     let u = c .before .before .put-line in
     omega (arith, l .inv .1, c .before .before .before .before .before .before .before .before .before .loop-test .taken, u .ensures .0, u .kept .1 .0, line-some (c .before .before .before .before .before .answer .given .0 .0), line-longest (c .before .before .before .before .before .answer .given .0 .0))
 
--- src/lines.rt:38:5
 loop-again : tie.Need-loop-again Inv-loop μ-loop
 loop-again c =
     let a = c .before .before .before .before .before .before .before .before .before .before .before .before .before .args in
@@ -103,11 +89,9 @@ loop-again c =
       beyond (l .out) e (l .len) (u .result) (line v) (l .inv .1) (u .ensures) (now (a .out)) (l .inv .4),
     )
 
--- src/lines.rt:32:1
 same-length-2 : tie.Need-same-length-2 Inv-loop μ-loop
 same-length-2 c = c .before .loop .inv .2
 
--- src/lines.rt:32:1
 returns-2 : tie.Need-returns-2 Inv-loop μ-loop
 returns-2 c =
     let l = c .before .loop in

@@ -9,18 +9,13 @@ use lib.ListN.{List·getD-eq-default}
 use borrow.Author.Needs.{needs}
 use Rattle.region_file.proofs.chains.is_marked.Statement.{statement}
 use Rattle.region_file.proofs.chains.is_marked.Tie as tie
-use Rattle.region_file.proofs.chains.is_marked.Reads as reads
-use Rattle.region_file.proofs.chains.is_marked.Lts as lts
 
--- src/chains.rt:42:9
 returns : tie.Need-returns
 returns c = let a = c .before .args in sym (ap (λ (k : ℕ). not (eqb k 0)) (List·getD-eq-default (now (a .marks)) 0 (c .if1 .taken)))
 
--- src/chains.rt:44:5
 shared-slice-read-result : tie.Need-shared-slice-read-result
 shared-slice-read-result c = search needs
 
--- src/chains.rt:38:1
 returns-2 : tie.Need-returns-2
 returns-2 c = search needs
 

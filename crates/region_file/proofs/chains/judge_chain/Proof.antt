@@ -1,7 +1,7 @@
 -- `chains::judge_chain` meets its contract: the chain still to be judged, of as many links as records are free, decides.
 -- Assumes nothing.
-use mathlib.Core.Path.{_≡_, refl, sym, ap, ap₂, _∙_}
-use mathlib.Core.Bool.{Bool, true, false}
+use mathlib.Core.Path.{_≡_, sym, ap, ap₂, _∙_}
+use mathlib.Core.Bool.{Bool}
 use mathlib.Core.List.{List}
 use Prim.Native.Nat.{ℕ, _<_, _≤_, _^_}
 use native.Mathlib.Omega.{arith}
@@ -18,8 +18,6 @@ use Rattle.region_file.proofs.Marks.{marked, free, free-fresh, fresh-at
 use Rattle.region_file.proofs.Chain.{passed, chain-end, chain-refused, chain-next}
 use Rattle.region_file.proofs.chains.judge_chain.Statement.{statement}
 use Rattle.region_file.proofs.chains.judge_chain.Tie as tie
-use Rattle.region_file.proofs.chains.judge_chain.Reads as reads
-use Rattle.region_file.proofs.chains.judge_chain.Lts as lts
 
 abbrev Inv-loop : tie.InvT-loop
 Inv-loop file limit marks₀ n₀ marks n =
@@ -46,11 +44,9 @@ taken limit file ms n few l h =
     let o = p .here in
     record { here = omega (arith, o); clear = unmarked ms n (p .fresh) }
 
--- src/lib.rt:160:9
 first-record-requires : tie.Need-first-record-requires Inv-loop μ-loop
 first-record-requires c κs = search needs
 
--- src/lib.rt:161:5
 loop-holds : tie.Need-loop-holds Inv-loop μ-loop
 loop-holds c =
     let a = c .before .before .args in (
@@ -61,27 +57,21 @@ loop-holds c =
           ∙ ap (chain (a .limit) (now (a .file)) most-records nowhere) (c .first-record .ensures),
     )
 
--- src/lib.rt:162:18
 cast-at : tie.Need-cast-at Inv-loop μ-loop
 cast-at c = search needs
 
--- src/lib.rt:163:30
 slice-aggregate-is-marked : tie.Need-slice-aggregate-is-marked Inv-loop μ-loop
 slice-aggregate-is-marked c = search needs
 
--- src/lib.rt:163:13
 is-marked-requires : tie.Need-is-marked-requires Inv-loop μ-loop
 is-marked-requires c κs = search needs
 
--- src/lib.rt:164:13
 judge-link-requires : tie.Need-judge-link-requires Inv-loop μ-loop
 judge-link-requires c κs = search needs
 
--- src/lib.rt:165:32
 enum-known-judged : tie.Need-enum-known-judged Inv-loop μ-loop
 enum-known-judged c = search needs
 
--- src/lib.rt:166:13
 returns : tie.Need-returns Inv-loop μ-loop
 unfolding marked
 returns c =
@@ -94,7 +84,6 @@ returns c =
 enum-told : tie.Need-enum-told Inv-loop μ-loop
 enum-told c = search needs
 
--- src/lib.rt:168:9
 array-write-marks : tie.Need-array-write-marks Inv-loop μ-loop
 unfolding marked
 array-write-marks c =
@@ -105,11 +94,9 @@ array-write-marks c =
     let t = taken (a .limit) (now (a .file)) (i .marks) (i .n) (c .before .before .before .before .before .before .before .before .before .pre) (i .inv .0) e in
     omega (arith, t .here)
 
--- src/lib.rt:169:13
 record-at-requires : tie.Need-record-at-requires Inv-loop μ-loop
 record-at-requires c κs = search needs
 
--- src/lib.rt:161:5
 loop-less : tie.Need-loop-less Inv-loop μ-loop
 unfolding marked
 loop-less c =
@@ -120,7 +107,6 @@ loop-less c =
     let t = taken (a .limit) (now (a .file)) (i .marks) (i .n) (c .before .before .before .before .before .before .before .before .before .before .pre) (i .inv .0) e in
     omega (arith, free-set (i .marks) (i .n) (t .here) (t .clear))
 
--- src/lib.rt:161:5
 loop-again : tie.Need-loop-again Inv-loop μ-loop
 unfolding marked
 loop-again c =
@@ -141,7 +127,6 @@ loop-again c =
           ∙ i .inv .3,
     )
 
--- src/lib.rt:155:1
 returns-2 : tie.Need-returns-2 Inv-loop μ-loop
 returns-2 c =
     let a = c .before .before .before .before .args in

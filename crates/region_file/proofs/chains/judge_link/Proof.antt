@@ -16,39 +16,28 @@ use Rattle.region_file.specs.Judge.{link-outcome, too-many}
 use borrow.Author.Needs.{needs}
 use Rattle.region_file.proofs.chains.judge_link.Statement.{statement}
 use Rattle.region_file.proofs.chains.judge_link.Tie as tie
-use Rattle.region_file.proofs.chains.judge_link.Reads as reads
-use Rattle.region_file.proofs.chains.judge_link.Lts as lts
-use Rattle.region_file.proofs.fields.record_at.Reads as record-at-reads
-use Rattle.region_file.proofs.fields.record_count.Reads as record-count-reads
-use Rattle.stage.proofs.regions.Region.within.Reads as within-reads
 
--- src/chains.rt:21:8
 record-count-requires : tie.Need-record-count-requires
 record-count-requires c κs = search needs
 
--- src/chains.rt:22:9
 returns : tie.Need-returns
 returns c = sym (first-refuses _ 13 _ (le-leb _ _ (subst (λ (k : ℕ). k ≤ c .before .before .before .args .n) (c .before .record-count .ensures) (c .if1 .taken))))
 
 here : (c : tie.Else1) → leb (records (now (c .before .before .before .args .file))) (c .before .before .before .args .n) ≡ false
 here c = lt-leb _ _ (subst (λ (k : ℕ). c .before .before .before .args .n < k) (c .before .record-count .ensures) (c .if1 .left))
 
--- src/chains.rt:25:9
 returns-2 : tie.Need-returns-2
 returns-2 c = sym (first-passes _ 13 _ (here (c .before)) ∙ first-refuses _ 14 _ (c .if2 .taken))
 
--- src/chains.rt:27:9
 record-at-requires : tie.Need-record-at-requires
 record-at-requires c κs = search needs
 
--- src/chains.rt:29:9
 within-requires : tie.Need-within-requires
 within-requires c κs = search needs
 
 region : (c : tie.After-within) → c .within .result ≡ within (record-at (now (c .before .before .before .before .before .before .before .args .file)) (c .before .before .before .before .before .before .before .args .n) .region)
 region c = c .within .ensures ∙ ap (λ (r : Record). within (r .region)) (c .before .before .record-at .ensures)
 
--- src/chains.rt:30:9
 returns-3 : tie.Need-returns-3
 returns-3 c = sym (first-passes _ 13 _ (here (c .before .before .before .before .before)) ∙ first-passes _ 14 _ (c .before .before .before .before .if2 .left) ∙ first-refuses _ 10 _ (sym (ap not (region (c .before))) ∙ c .if3 .taken))
 
@@ -57,13 +46,11 @@ before : (c : tie.Else3) → let a = c .before .before .before .before .before .
     link-outcome (a .limit) (now (a .file)) (a .seen) (a .n) ≡ first (too-many (a .limit) (record-at (now (a .file)) (a .n)) ∷ []) (accepted tt)
 before c = first-passes _ 13 _ (here (c .before .before .before .before .before)) ∙ first-passes _ 14 _ (c .before .before .before .before .if2 .left) ∙ first-passes _ 10 _ (sym (ap not (region (c .before))) ∙ c .if3 .left)
 
--- src/chains.rt:33:9
 returns-4 : tie.Need-returns-4
 returns-4 c =
     let a = c .before .before .before .before .before .before .before .before .before .before .args in
     sym (before (c .before .before) ∙ first-refuses _ 15 _ (lt-ltb _ _ (subst (λ (r : Record). a .limit < r .count) (c .before .before .before .before .before .record-at .ensures) (c .if4 .taken))))
 
--- src/chains.rt:18:1
 returns-5 : tie.Need-returns-5
 returns-5 c =
     let a = c .before .before .before .before .before .before .before .before .before .before .args in

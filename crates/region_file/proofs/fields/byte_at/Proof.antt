@@ -7,23 +7,16 @@ use lib.ListN.{List·getD-eq-default}
 use borrow.Author.Needs.{needs}
 use Rattle.region_file.proofs.fields.byte_at.Statement.{statement}
 use Rattle.region_file.proofs.fields.byte_at.Tie as tie
-use Rattle.region_file.proofs.fields.byte_at.Reads as reads
-use Rattle.region_file.proofs.fields.byte_at.Lts as lts
-use Rattle.region_file.proofs.fields.wide.Reads as wide-reads
 
--- src/fields.rt:29:21
 shared-slice-read-wide : tie.Need-shared-slice-read-wide
 shared-slice-read-wide c = search needs
 
--- src/fields.rt:29:9
 wide-requires : tie.Need-wide-requires
 wide-requires c κs = search needs
 
--- src/fields.rt:29:9
 returns : tie.Need-returns
 returns c = search needs
 
--- src/fields.rt:25:1
 returns-2 : tie.Need-returns-2
 returns-2 c = (sym (List·getD-eq-default (now (c .before .before .args .file)) 0 (c .if1 .left)), lit< tt)
 

@@ -4,75 +4,55 @@ use Rattle.region_file.specs.Fields.{word-at}
 use borrow.Author.Needs.{needs}
 use Rattle.region_file.proofs.fields.field.Statement.{statement}
 use Rattle.region_file.proofs.fields.field.Tie as tie
-use Rattle.region_file.proofs.fields.field.Reads as reads
-use Rattle.region_file.proofs.fields.field.Lts as lts
-use Rattle.region_file.proofs.fields.byte_at.Reads as byte-at-reads
 
--- src/fields.rt:38:14
 mul-at : tie.Need-mul-at
 mul-at c = search needs
 
--- src/fields.rt:38:32
 mul-at-2 : tie.Need-mul-at-2
 mul-at-2 c = search needs
 
--- src/fields.rt:38:14
 add-at : tie.Need-add-at
 add-at c = search needs
 
--- src/fields.rt:39:5
 byte-at-requires : tie.Need-byte-at-requires
 byte-at-requires c κs = search needs
 
--- src/fields.rt:40:25
 add-byte-at : tie.Need-add-byte-at
 add-byte-at c = search needs
 
--- src/fields.rt:40:11
 byte-at-requires-2 : tie.Need-byte-at-requires-2
 byte-at-requires-2 c κs = search needs
 
--- src/fields.rt:40:11
 mul-result : tie.Need-mul-result
 mul-result c = search needs
 
--- src/fields.rt:39:5
 add-result : tie.Need-add-result
 add-result c = search needs
 
--- src/fields.rt:41:25
 add-byte-at-2 : tie.Need-add-byte-at-2
 add-byte-at-2 c = search needs
 
--- src/fields.rt:41:11
 byte-at-requires-3 : tie.Need-byte-at-requires-3
 byte-at-requires-3 c κs = search needs
 
--- src/fields.rt:41:11
 mul-result-2 : tie.Need-mul-result-2
 mul-result-2 c = search needs
 
--- src/fields.rt:39:5
 add-result-2 : tie.Need-add-result-2
 add-result-2 c = search needs
 
--- src/fields.rt:42:25
 add-byte-at-3 : tie.Need-add-byte-at-3
 add-byte-at-3 c = search needs
 
--- src/fields.rt:42:11
 byte-at-requires-4 : tie.Need-byte-at-requires-4
 byte-at-requires-4 c κs = search needs
 
--- src/fields.rt:42:11
 mul-result-3 : tie.Need-mul-result-3
 mul-result-3 c = search needs
 
--- src/fields.rt:39:5
 add-result-3 : tie.Need-add-result-3
 add-result-3 c = search needs
 
--- src/fields.rt:35:1
 returns : tie.Need-returns
 unfolding word-at
 returns c = search needs

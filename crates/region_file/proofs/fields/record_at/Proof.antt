@@ -8,28 +8,19 @@ use Rattle.region_file.specs.Fields.{record-at}
 use borrow.Author.Needs.{needs}
 use Rattle.region_file.proofs.fields.record_at.Statement.{statement}
 use Rattle.region_file.proofs.fields.record_at.Tie as tie
-use Rattle.region_file.proofs.fields.record_at.Reads as reads
-use Rattle.region_file.proofs.fields.record_at.Lts as lts
-use Rattle.region_file.proofs.fields.field.Reads as field-reads
-use Rattle.region_file.proofs.fields.region_at.Reads as region-at-reads
 
--- src/fields.rt:73:15
 field-requires : tie.Need-field-requires
 field-requires c κs = search needs
 
--- src/fields.rt:74:17
 region-at-requires : tie.Need-region-at-requires
 region-at-requires c κs = search needs
 
--- src/fields.rt:76:16
 field-requires-2 : tie.Need-field-requires-2
 field-requires-2 c κs = search needs
 
--- src/fields.rt:77:16
 field-requires-3 : tie.Need-field-requires-3
 field-requires-3 c κs = search needs
 
--- src/fields.rt:79:16
 field-requires-4 : tie.Need-field-requires-4
 field-requires-4 c κs = search needs
 
@@ -40,7 +31,6 @@ made-same : {n n′ : ℕ} {r r′ : Region} {x x′ y y′ k k′ : ℕ} → n 
 made-same {n} {n′} {r} {r′} {x} {x′} {y} {y′} {k} {k′} p q s t u =
     ap₂ (λ (i : ℕ) (j : Region). made i j x y k) p q ∙ ap₂ (λ (i j : ℕ). made n′ r′ i j k) s t ∙ ap (made n′ r′ x′ y′) u
 
--- src/fields.rt:69:1
 returns : tie.Need-returns
 unfolding record-at
 returns c =

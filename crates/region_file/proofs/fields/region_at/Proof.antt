@@ -11,32 +11,22 @@ use Rattle.region_file.specs.Fields.{record-at}
 use borrow.Author.Needs.{needs}
 use Rattle.region_file.proofs.fields.region_at.Statement.{statement}
 use Rattle.region_file.proofs.fields.region_at.Tie as tie
-use Rattle.region_file.proofs.fields.region_at.Reads as reads
-use Rattle.region_file.proofs.fields.region_at.Lts as lts
-use Rattle.region_file.proofs.fields.field.Reads as field-reads
-use Rattle.region_file.proofs.fields.signed.Reads as signed-reads
 
--- src/fields.rt:58:9
 field-requires : tie.Need-field-requires
 field-requires c κs = search needs
 
--- src/fields.rt:59:9
 field-requires-2 : tie.Need-field-requires-2
 field-requires-2 c κs = search needs
 
--- src/fields.rt:61:15
 signed-requires : tie.Need-signed-requires
 signed-requires c κs = search needs
 
--- src/fields.rt:62:14
 signed-requires-2 : tie.Need-signed-requires-2
 signed-requires-2 c κs = search needs
 
--- src/fields.rt:63:16
 field-requires-3 : tie.Need-field-requires-3
 field-requires-3 c κs = search needs
 
--- src/fields.rt:64:17
 field-requires-4 : tie.Need-field-requires-4
 field-requires-4 c κs = search needs
 
@@ -46,7 +36,6 @@ made l t w h = record { left = l; top = t; width = w; height = h }
 made-same : {l l′ t t′ : ℤ} {w w′ h h′ : ℕ} → l ≡ l′ → t ≡ t′ → w ≡ w′ → h ≡ h′ → made l t w h ≡ made l′ t′ w′ h′
 made-same {l} {l′} {t} {t′} {w} {w′} {h} {h′} p q r s = ap₂ (λ (x y : ℤ). made x y w h) p q ∙ ap₂ (made l′ t′) r s
 
--- src/fields.rt:55:1
 returns : tie.Need-returns
 unfolding record-at
 returns c =

@@ -12,22 +12,16 @@ use borrow.Author.Tests.{le-ltb}
 use borrow.Author.Needs.{needs}
 use Rattle.region_file.proofs.fields.signed.Statement.{statement}
 use Rattle.region_file.proofs.fields.signed.Tie as tie
-use Rattle.region_file.proofs.fields.signed.Reads as reads
-use Rattle.region_file.proofs.fields.signed.Lts as lts
 
--- src/fields.rt:50:16
 cast-result : tie.Need-cast-result
 cast-result c = search needs
 
--- src/fields.rt:50:9
 returns : tie.Need-returns
 returns c = search needs
 
--- src/fields.rt:52:11
 sub-result : tie.Need-sub-result
 sub-result c = search needs
 
--- src/fields.rt:52:10
 cast-result-2 : tie.Need-cast-result-2
 cast-result-2 c = search needs
 
@@ -42,11 +36,9 @@ value w h = ap (λ (z : ℤ). negsuc 0 -ℤ z) (toZ-pos w32 (4294967295 - w) (om
 fit : (w : ℕ) → 2147483648 ≤ w → SFits w32 (negsuc (4294967295 - w))
 fit w h = record { sfits = omega arith }
 
--- src/fields.rt:52:5
 sub-result-2 : tie.Need-sub-result-2
 sub-result-2 c = subst (SFits w32) (sym (value (c .before .args .word) (c .if1 .left))) (fit (c .before .args .word) (c .if1 .left))
 
--- src/fields.rt:46:1
 returns-2 : tie.Need-returns-2
 returns-2 c =
     let w = c .before .args .word in

@@ -5,20 +5,15 @@ use borrow.Author.Tests.{eq-eqb, ne-eqb, lt-ltb, le-ltb}
 use Rattle.region_file.specs.Judge.{whole}
 use Rattle.region_file.proofs.judging.is_whole.Statement.{statement}
 use Rattle.region_file.proofs.judging.is_whole.Tie as tie
-use Rattle.region_file.proofs.judging.is_whole.Reads as reads
-use Rattle.region_file.proofs.judging.is_whole.Lts as lts
 
--- src/judging.rt:40:9
 returns : tie.Need-returns
 unfolding whole
 returns c = sym (simp (eq-eqb _ _ (c .if1 .taken)))
 
--- src/judging.rt:43:9
 returns-2 : tie.Need-returns-2
 unfolding whole
 returns-2 c = sym (simp (ne-eqb _ _ (c .before .if1 .left), lt-ltb _ _ (c .if2 .taken)))
 
--- src/judging.rt:36:1
 returns-3 : tie.Need-returns-3
 unfolding whole
 returns-3 c = sym (simp (ne-eqb _ _ (c .before .if1 .left), le-ltb _ _ (c .if2 .left)))

@@ -16,28 +16,17 @@ use Rattle.region_file.proofs.Chain.{Whole, whole-has, whole-few}
 use borrow.Author.Needs.{needs}
 use Rattle.region_file.proofs.judging.judge_to.Statement.{statement}
 use Rattle.region_file.proofs.judging.judge_to.Tie as tie
-use Rattle.region_file.proofs.judging.judge_to.Reads as reads
-use Rattle.region_file.proofs.judging.judge_to.Lts as lts
-use Rattle.plan.proofs.pair.Plan.unknown_level.Reads as unknown-level-reads
-use Rattle.region_file.proofs.chains.judge_chain.Reads as judge-chain-reads
-use Rattle.region_file.proofs.fields.field.Reads as field-reads
-use Rattle.region_file.proofs.judging.is_whole.Reads as is-whole-reads
-use Rattle.region_file.proofs.judging.zeros.Reads as zeros-reads
 
--- src/judging.rt:52:9
 is-whole-requires : tie.Need-is-whole-requires
 is-whole-requires c κs = search needs
 
--- src/judging.rt:53:9
 returns : tie.Need-returns
 unfolding judge-outcome
 returns c = sym (first-refuses _ 11 _ (sym (ap not (c .before .is-whole .ensures)) ∙ c .if1 .taken))
 
--- src/judging.rt:55:28
 field-requires : tie.Need-field-requires
 field-requires c κs = search needs
 
--- src/judging.rt:55:8
 unknown-level-requires : tie.Need-unknown-level-requires
 unknown-level-requires c κs = search needs
 
@@ -53,25 +42,20 @@ size c = ap not (told c)
 level-told : (c : tie.After-unknown-level) → unknown-level (level (now (c .before .before .before .before .before .args .file))) .holds ≡ c .unknown-level .result
 level-told c = sym (c .unknown-level .ensures ∙ ap (λ (k : ℕ). unknown-level k .holds) (c .before .field .ensures))
 
--- src/judging.rt:56:9
 returns-2 : tie.Need-returns-2
 unfolding judge-outcome
 returns-2 c = sym (first-passes _ 11 _ (size (c .before .before .before)) ∙ first-refuses _ 2 _ (level-told (c .before) ∙ c .if2 .taken))
 
--- src/judging.rt:58:9
 zeros-requires : tie.Need-zeros-requires
 zeros-requires c κs = let w = whole (c .before .before .before) in omega (arith, w .some, w .even)
 
--- src/judging.rt:59:9
 returns-3 : tie.Need-returns-3
 unfolding judge-outcome
 returns-3 c = sym (first-passes _ 11 _ (size (c .before .before .before .before .before)) ∙ first-passes _ 2 _ (level-told (c .before .before .before) ∙ c .before .before .if2 .left) ∙ first-refuses _ 12 _ (sym (ap not (c .before .zeros .ensures)) ∙ c .if3 .taken))
 
--- src/judging.rt:61:5
 judge-chain-requires : tie.Need-judge-chain-requires
 judge-chain-requires c κs = whole-few _ (told (c .before .before .before .before .before))
 
--- src/judging.rt:49:1
 returns-4 : tie.Need-returns-4
 unfolding judge-outcome
 returns-4 c =

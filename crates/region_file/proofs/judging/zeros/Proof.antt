@@ -1,7 +1,7 @@
 -- `judging::zeros` meets its contract: what is left to look at is zero exactly when all is.
 -- Assumes nothing.
 use denote.Ref.{now}
-use mathlib.Core.Path.{_≡_, refl, sym, ap, _∙_}
+use mathlib.Core.Path.{_≡_, sym, _∙_}
 use Prim.Native.Nat.{_+_, _≤_}
 use native.Mathlib.Omega.{arith}
 use borrow.Author.Needs.{needs}
@@ -10,8 +10,6 @@ use Rattle.region_file.specs.Fields.{zeros}
 use Rattle.region_file.proofs.Zeros.{zeros-none, zeros-more, zeros-not}
 use Rattle.region_file.proofs.judging.zeros.Statement.{statement}
 use Rattle.region_file.proofs.judging.zeros.Tie as tie
-use Rattle.region_file.proofs.judging.zeros.Reads as reads
-use Rattle.region_file.proofs.judging.zeros.Lts as lts
 
 abbrev Inv-loop : tie.InvT-loop
 Inv-loop file from count at₀ left₀ at left = (at + left ≤ length file) × (zeros file at left ≡ zeros file from count)
@@ -19,41 +17,33 @@ Inv-loop file from count at₀ left₀ at left = (at + left ≤ length file) × 
 abbrev μ-loop : tie.MeasureT-loop
 μ-loop file from count at₀ left₀ at left = left
 
--- src/lib.rt:60:5
 loop-holds : tie.Need-loop-holds Inv-loop μ-loop
 loop-holds c = search needs
 
--- src/lib.rt:61:17
 shared-slice-read-b : tie.Need-shared-slice-read-b Inv-loop μ-loop
 shared-slice-read-b c = search needs
 
--- src/lib.rt:63:13
 returns : tie.Need-returns Inv-loop μ-loop
 returns c =
     let a = c .before .before .before .before .args in
     let i = c .before .before .before .loop in
     sym (zeros-not (now (a .file)) (i .at) (i .left) (c .before .before .loop-test .taken) (c .if1 .taken)) ∙ i .inv .1
 
--- src/lib.rt:65:9
 add-at : tie.Need-add-at Inv-loop μ-loop
 add-at c = search needs
 
--- src/lib.rt:66:9
 sub-left : tie.Need-sub-left Inv-loop μ-loop
 sub-left c = search needs
 
--- src/lib.rt:60:5
 loop-less : tie.Need-loop-less Inv-loop μ-loop
 loop-less c = search needs
 
--- src/lib.rt:60:5
 loop-again : tie.Need-loop-again Inv-loop μ-loop
 loop-again c =
     let a = c .before .before .before .before .args in
     let i = c .before .before .before .loop in
     (omega arith, zeros-more (now (a .file)) (i .at) (i .left) (c .before .before .loop-test .taken) (c .if1 .left) ∙ i .inv .1)
 
--- src/lib.rt:54:1
 returns-2 : tie.Need-returns-2 Inv-loop μ-loop
 returns-2 c =
     let a = c .before .before .args in

@@ -1,24 +1,18 @@
 -- `axis::edge_within` meets its contract.
 -- Assumes nothing.
-use mathlib.Core.Path.{_≡_}
 use mathlib.Core.Bool.{true, false}
 use lib.IntN.{ℤ, pos, negsuc}
 use lib.Signed.{ltZ}
 use Rattle.stage.proofs.Sums.{read-back}
 use Rattle.stage.proofs.axis.edge_within.Statement.{statement}
 use Rattle.stage.proofs.axis.edge_within.Tie as tie
-use Rattle.stage.proofs.axis.edge_within.Reads as reads
-use Rattle.stage.proofs.axis.edge_within.Lts as lts
 
--- src/axis.rt:17:9
 returns : tie.Need-returns
 returns c = simp (read-back (λ (z : ℤ). ltZ z (negsuc 999999)) true (c .before .args .edge) (c .before .fits .edge) (c .if1 .taken))
 
--- src/axis.rt:20:9
 returns-2 : tie.Need-returns-2
 returns-2 c = let a = c .before .before in simp (read-back (λ (z : ℤ). ltZ z (negsuc 999999)) false (a .args .edge) (a .fits .edge) (c .before .if1 .left), read-back (λ (z : ℤ). ltZ (pos 1000000) z) true (a .args .edge) (a .fits .edge) (c .if2 .taken))
 
--- src/axis.rt:13:1
 returns-3 : tie.Need-returns-3
 returns-3 c = let a = c .before .before in simp (read-back (λ (z : ℤ). ltZ z (negsuc 999999)) false (a .args .edge) (a .fits .edge) (c .before .if1 .left), read-back (λ (z : ℤ). ltZ (pos 1000000) z) false (a .args .edge) (a .fits .edge) (c .if2 .left))
 

@@ -3,18 +3,13 @@
 use borrow.Author.Tests.{lt-ltb, le-ltb}
 use Rattle.stage.proofs.axis.extent_within.Statement.{statement}
 use Rattle.stage.proofs.axis.extent_within.Tie as tie
-use Rattle.stage.proofs.axis.extent_within.Reads as reads
-use Rattle.stage.proofs.axis.extent_within.Lts as lts
 
--- src/axis.rt:29:9
 returns : tie.Need-returns
 returns c = simp (lt-ltb _ _ (c .if1 .taken))
 
--- src/axis.rt:32:9
 returns-2 : tie.Need-returns-2
 returns-2 c = simp (le-ltb _ _ (c .before .if1 .left), lt-ltb _ _ (c .if2 .taken))
 
--- src/axis.rt:25:1
 returns-3 : tie.Need-returns-3
 returns-3 c = simp (le-ltb _ _ (c .before .if1 .left), le-ltb _ _ (c .if2 .left))
 

@@ -5,18 +5,13 @@ use Rattle.stage.proofs.Sums.{product-fits, offset-le}
 use borrow.Author.Needs.{needs}
 use Rattle.stage.proofs.axis.offset.Statement.{statement}
 use Rattle.stage.proofs.axis.offset.Tie as tie
-use Rattle.stage.proofs.axis.offset.Reads as reads
-use Rattle.stage.proofs.axis.offset.Lts as lts
 
--- src/axis.rt:41:6
 mul-result : tie.Need-mul-result
 mul-result c = record { fits = product-fits 32 (search needs) (search needs) }
 
--- src/axis.rt:41:5
 cast-result : tie.Need-cast-result
 cast-result c = omega (arith, offset-le (c .args .word) (c .args .extent) (search needs))
 
--- src/axis.rt:38:1
 returns : tie.Need-returns
 returns c = search needs
 

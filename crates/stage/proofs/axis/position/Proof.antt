@@ -1,6 +1,6 @@
 -- `axis::position` meets its contract.
 -- Assumes nothing.
-use mathlib.Core.Path.{_≡_, sym, ap, _∙_, subst}
+use mathlib.Core.Path.{sym, ap, _∙_, subst}
 use Prim.Native.Nat.{ℕ, _≤_}
 use native.Mathlib.Omega.{arith}
 use lib.IntN.{ℤ, pos, _+ℤ_}
@@ -12,15 +12,10 @@ use Rattle.stage.proofs.Sums.{offset-le, moved-fits, moved}
 use borrow.Author.Needs.{needs}
 use Rattle.stage.proofs.axis.position.Statement.{statement}
 use Rattle.stage.proofs.axis.position.Tie as tie
-use Rattle.stage.proofs.axis.position.Reads as reads
-use Rattle.stage.proofs.axis.position.Lts as lts
-use Rattle.stage.proofs.axis.offset.Reads as offset-reads
 
--- src/axis.rt:50:9
 offset-requires : tie.Need-offset-requires
 offset-requires c κs = search needs
 
--- src/axis.rt:51:12
 -- the offset is no more than the extent
 small : (c : tie.After-offset) → c .offset .result ≤ largest-extent
 small c = omega (arith, offset-le (c .before .args .word) (c .before .args .extent) (c .before .fits .word .fits), c .offset .ensures)
@@ -28,14 +23,12 @@ small c = omega (arith, offset-le (c .before .args .word) (c .before .args .exte
 cast-result : tie.Need-cast-result
 cast-result c = record { sfits = omega (arith, small c) }
 
--- src/axis.rt:51:5
 add-result : tie.Need-add-result
 add-result c =
     let e = c .before .args .edge in
     let n = c .offset .result in
     subst (SFits w32) (sym (moved e n (c .before .fits .edge) (small c))) (moved-fits e n (c .before .pre .0) (small c))
 
--- src/axis.rt:45:1
 returns : tie.Need-returns
 returns c =
     let e = c .before .args .edge in

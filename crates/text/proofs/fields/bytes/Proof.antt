@@ -1,6 +1,6 @@
 -- `fields::bytes` meets its contract.
 -- Assumes nothing.
-use mathlib.Core.Path.{_≡_, sym, _∙_}
+use mathlib.Core.Path.{sym, _∙_}
 use denote.Ref.{now}
 use lib.ListN.{length}
 use borrow.Author.Tests.{not-true, not-false, leb-true}
@@ -8,30 +8,21 @@ use Rattle.text.proofs.Puts.{wrote-nothing, put-wrote}
 use borrow.Author.Needs.{needs}
 use Rattle.text.proofs.fields.bytes.Statement.{statement}
 use Rattle.text.proofs.fields.bytes.Tie as tie
-use Rattle.text.proofs.fields.bytes.Reads as reads
-use Rattle.text.proofs.fields.bytes.Lts as lts
-use Rattle.text.proofs.fields.copy.Reads as copy-reads
-use Rattle.text.proofs.fields.has_room.Reads as has-room-reads
 
--- src/fields.rt:54:9
 has-room-requires : tie.Need-has-room-requires
 has-room-requires c κs = search needs
 
--- src/fields.rt:55:9
 returns : tie.Need-returns
 returns c =
     let a = c .before .before .before .before .args in
     wrote-nothing (length (now (a .text))) (now (a .out)) (a .at) (now (a .text)) (sym (c .before .has-room .ensures) ∙ not-true _ (c .if1 .taken))
 
--- src/fields.rt:57:5
 copy-requires : tie.Need-copy-requires
 copy-requires c κs = leb-true _ _ (sym (c .before .before .has-room .ensures) ∙ not-false _ (c .before .if1 .left))
 
--- src/fields.rt:50:1
 same-length : tie.Need-same-length
 same-length c = search needs
 
--- src/fields.rt:50:1
 returns-2 : tie.Need-returns-2
 returns-2 c =
     let a = c .before .before .before .before .before .before .before .before .args in

@@ -12,8 +12,6 @@ use Rattle.text.specs.Put.{put}
 use Rattle.text.proofs.Puts.{put-nothing, put-next}
 use Rattle.text.proofs.fields.copy.Statement.{statement}
 use Rattle.text.proofs.fields.copy.Tie as tie
-use Rattle.text.proofs.fields.copy.Reads as reads
-use Rattle.text.proofs.fields.copy.Lts as lts
 
 abbrev Inv-loop : tie.InvT-loop
 Inv-loop text out₀ at i₀ out i = (i ≤ length text) × (length out ≡ length out₀) × (out ≡ put out₀ at (take i text))
@@ -21,31 +19,24 @@ Inv-loop text out₀ at i₀ out i = (i ≤ length text) × (length out ≡ leng
 abbrev μ-loop : tie.MeasureT-loop
 μ-loop text out₀ at i₀ out i = length text - i
 
--- src/lib.rt:75:5
 loop-holds : tie.Need-loop-holds Inv-loop μ-loop
 loop-holds c = (search needs, refl, sym (put-nothing (now (c .args .out)) (c .args .at)))
 
--- src/lib.rt:76:23
 shared-slice-read-out : tie.Need-shared-slice-read-out Inv-loop μ-loop
 shared-slice-read-out c = search needs
 
--- src/lib.rt:76:13
 add-out : tie.Need-add-out Inv-loop μ-loop
 add-out c = search needs
 
--- src/lib.rt:76:9
 slice-write-out : tie.Need-slice-write-out Inv-loop μ-loop
 slice-write-out c = search needs
 
--- src/lib.rt:77:9
 add-i : tie.Need-add-i Inv-loop μ-loop
 add-i c = search needs
 
--- src/lib.rt:75:5
 loop-less : tie.Need-loop-less Inv-loop μ-loop
 loop-less c = search needs
 
--- src/lib.rt:75:5
 loop-again : tie.Need-loop-again Inv-loop μ-loop
 loop-again c =
     let a = c .before .before .before .args in
@@ -56,15 +47,12 @@ loop-again c =
       ap (λ (l : List ℕ). set l (a .at + i .i) x) (i .inv .2) ∙ put-next (now (a .out)) (now (a .text)) (a .at) (i .i) (c .before .loop-test .taken) (c .before .before .before .pre),
     )
 
--- src/lib.rt:79:5
 add-result : tie.Need-add-result Inv-loop μ-loop
 add-result c = search needs
 
--- src/lib.rt:69:1
 same-length : tie.Need-same-length Inv-loop μ-loop
 same-length c = c .before .loop .inv .1
 
--- src/lib.rt:69:1
 returns : tie.Need-returns Inv-loop μ-loop
 returns c =
     let a = c .before .before .args in

@@ -14,16 +14,10 @@ use Rattle.text.proofs.Numbers.{number-longest}
 use borrow.Author.Needs.{needs}
 use Rattle.text.proofs.fields.number.Statement.{statement}
 use Rattle.text.proofs.fields.number.Tie as tie
-use Rattle.text.proofs.fields.number.Reads as reads
-use Rattle.text.proofs.fields.number.Lts as lts
-use Rattle.text.proofs.fields.has_room.Reads as has-room-reads
-use Rattle.text.proofs.numerals.put_number.Reads as put-number-reads
 
--- src/fields.rt:30:9
 has-room-requires : tie.Need-has-room-requires
 has-room-requires c κs = search needs
 
--- src/fields.rt:31:9
 returns : tie.Need-returns
 returns c =
     let a = c .before .before .before .args in
@@ -35,17 +29,14 @@ room c = sym (c .before .has-room .ensures) ∙ not-false _ (c .if1 .left)
 left : (c : tie.Else1) → c .before .before .before .args .at + longest-number ≤ length (now (c .before .before .before .args .out))
 left c = leb-true (c .before .before .before .args .at + longest-number) (length (now (c .before .before .before .args .out))) (room c)
 
--- src/fields.rt:33:5
 put-number-requires : tie.Need-put-number-requires
 put-number-requires c κs =
     let a = c .before .before .before .before .args in
     omega (arith, left (c .before), number-longest (a .n) (a .last))
 
--- src/fields.rt:26:1
 same-length : tie.Need-same-length
 same-length c = search needs
 
--- src/fields.rt:26:1
 returns-2 : tie.Need-returns-2
 returns-2 c =
     let a = c .before .before .before .before .before .before .before .args in

@@ -18,24 +18,15 @@ use Rattle.text.proofs.Numbers.{signed-length, signed-longest}
 use borrow.Author.Needs.{needs}
 use Rattle.text.proofs.fields.signed_number.Statement.{statement}
 use Rattle.text.proofs.fields.signed_number.Tie as tie
-use Rattle.text.proofs.fields.signed_number.Reads as reads
-use Rattle.text.proofs.fields.signed_number.Lts as lts
-use Rattle.text.proofs.fields.has_room.Reads as has-room-reads
-use Rattle.text.proofs.numerals.magnitude.Reads as magnitude-reads
-use Rattle.text.proofs.numerals.put_number.Reads as put-number-reads
-use Rattle.text.proofs.numerals.put_sign.Reads as put-sign-reads
 
--- src/fields.rt:41:9
 has-room-requires : tie.Need-has-room-requires
 has-room-requires c κs = search needs
 
--- src/fields.rt:42:9
 returns : tie.Need-returns
 returns c =
     let a = c .before .before .before .args in
     wrote-nothing longest-signed (now (a .out)) (a .at) (signed-text (a .z) (a .last)) (sym (c .before .has-room .ensures) ∙ not-true _ (c .if1 .taken))
 
--- src/fields.rt:44:9
 magnitude-requires : tie.Need-magnitude-requires
 magnitude-requires c κs = search needs
 
@@ -45,14 +36,12 @@ room c = sym (c .before .has-room .ensures) ∙ not-false _ (c .if1 .left)
 left : (c : tie.Else1) → c .before .before .before .args .at + longest-signed ≤ length (now (c .before .before .before .args .out))
 left c = leb-true (c .before .before .before .args .at + longest-signed) (length (now (c .before .before .before .args .out))) (room c)
 
--- src/fields.rt:45:9
 put-sign-requires : tie.Need-put-sign-requires
 put-sign-requires c κs =
     let a = c .before .before .before .before .before .args in
     let e : toZ w32 (ofZ w32 (a .z)) ≡ a .z = toZ-ofZ w32 (a .z) (c .before .before .before .before .before .fits .z) in
     omega (arith, left (c .before .before), signed-longest (a .z) (a .last), signed-length (a .z) (a .last), ap (λ (z : ℤ). length (sign z)) e)
 
--- src/fields.rt:46:5
 put-number-requires : tie.Need-put-number-requires
 put-number-requires c κs =
     let a = c .before .before .before .before .before .before .before .before .before .args in
@@ -60,11 +49,9 @@ put-number-requires c κs =
     let e : toZ w32 (ofZ w32 (a .z)) ≡ a .z = toZ-ofZ w32 (a .z) (c .before .before .before .before .before .before .before .before .before .fits .z) in
     omega (arith, left (c .before .before .before .before .before .before), signed-longest (a .z) (a .last), signed-length (a .z) (a .last), u .ensures .0, u .kept .1 .0, ap (λ (z : ℤ). length (sign z)) e, ap (λ (k : ℕ). length (number-text k (a .last))) (c .before .before .before .before .before .magnitude .ensures ∙ ap natAbs e))
 
--- src/fields.rt:37:1
 same-length : tie.Need-same-length
 same-length c = search needs
 
--- src/fields.rt:37:1
 returns-2 : tie.Need-returns-2
 unfolding signed-text
 returns-2 c =

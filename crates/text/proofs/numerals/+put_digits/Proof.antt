@@ -1,8 +1,8 @@
 -- `numerals::put_digits` meets its contract, by the number of digits that it may still put.
 -- Assumes nothing.
-use mathlib.Core.Path.{_≡_, refl, sym, ap, _∙_, subst}
-use mathlib.Core.List.{List, [], _∷_, _++_}
-use Prim.Native.Nat.{_+_, _-_, _/_, _%_, _≤_}
+use mathlib.Core.Path.{_≡_, sym, ap, _∙_, subst}
+use mathlib.Core.List.{List, [], _∷_}
+use Prim.Native.Nat.{_+_, _-_, _/_, _%_}
 use native.Mathlib.Omega.{arith}
 use borrow.Author.Needs.{needs}
 use denote.Ref.{now}
@@ -32,7 +32,6 @@ abbrev put-digits-below : ℕ → In 1 put-digits-kinds.ps
 put-digits-below t =
     and 1 put-digits-kinds.ps (falls 1 put-digits-kinds.ps _<_ μ-put-digits t) put-digits.Pre
 
--- src/lib.rt:17:30
 put-digits-cast-put-byte : (t : ℕ) → put-digits-lts.Need-cast-put-byte (
   put-byte-reads.Asked,
   put-byte-reads.Learnt,
@@ -41,7 +40,6 @@ put-digits-cast-put-byte : (t : ℕ) → put-digits-lts.Need-cast-put-byte (
 ) (put-digits-at t) put-digits.Post
 put-digits-cast-put-byte t c = omega arith
 
--- src/lib.rt:17:25
 put-digits-add-put-byte : (t : ℕ) → put-digits-lts.Need-add-put-byte (
   put-byte-reads.Asked,
   put-byte-reads.Learnt,
@@ -50,7 +48,6 @@ put-digits-add-put-byte : (t : ℕ) → put-digits-lts.Need-add-put-byte (
 ) (put-digits-at t) put-digits.Post
 put-digits-add-put-byte t c = omega arith
 
--- src/lib.rt:17:9
 put-digits-put-byte-requires : (t : ℕ) → put-digits-lts.Need-put-byte-requires (
   put-byte-reads.Asked,
   put-byte-reads.Learnt,
@@ -59,7 +56,6 @@ put-digits-put-byte-requires : (t : ℕ) → put-digits-lts.Need-put-byte-requir
 ) (put-digits-at t) put-digits.Post
 put-digits-put-byte-requires t c κs = omega (arith, c .before .before .before .pre .1, ap length (digits-last (c .before .before .before .args .f) (c .before .before .before .args .n) (c .before .if1 .taken)))
 
--- src/lib.rt:17:9
 put-digits-same-length : (t : ℕ) → put-digits-lts.Need-same-length (
   put-byte-reads.Asked,
   put-byte-reads.Learnt,
@@ -68,7 +64,6 @@ put-digits-same-length : (t : ℕ) → put-digits-lts.Need-same-length (
 ) (put-digits-at t) put-digits.Post
 put-digits-same-length t c = search needs
 
--- src/lib.rt:17:9
 put-digits-returns : (t : ℕ) → put-digits-lts.Need-returns (
   put-byte-reads.Asked,
   put-byte-reads.Learnt,
@@ -77,7 +72,6 @@ put-digits-returns : (t : ℕ) → put-digits-lts.Need-returns (
 ) (put-digits-at t) put-digits.Post
 put-digits-returns t c = subst (λ (s : List ℕ). (c .before .before .put-byte .result ≡ c .before .before .before .before .before .before .args .at + length s) × (c .before .before .put-byte .last .1 .0 ≡ put (now (c .before .before .before .before .before .before .args .out)) (c .before .before .before .before .before .before .args .at) s)) (sym (digits-last (c .before .before .before .before .before .before .args .f) (c .before .before .before .before .before .before .args .n) (c .before .before .before .before .if1 .taken))) (c .before .before .put-byte .ensures)
 
--- src/lib.rt:20:30
 put-digits-cast-put-byte-2 : (t : ℕ) → put-digits-lts.Need-cast-put-byte-2 (
   put-byte-reads.Asked,
   put-byte-reads.Learnt,
@@ -86,7 +80,6 @@ put-digits-cast-put-byte-2 : (t : ℕ) → put-digits-lts.Need-cast-put-byte-2 (
 ) (put-digits-at t) put-digits.Post
 put-digits-cast-put-byte-2 t c = omega arith
 
--- src/lib.rt:20:25
 put-digits-add-put-byte-2 : (t : ℕ) → put-digits-lts.Need-add-put-byte-2 (
   put-byte-reads.Asked,
   put-byte-reads.Learnt,
@@ -95,7 +88,6 @@ put-digits-add-put-byte-2 : (t : ℕ) → put-digits-lts.Need-add-put-byte-2 (
 ) (put-digits-at t) put-digits.Post
 put-digits-add-put-byte-2 t c = omega arith
 
--- src/lib.rt:20:9
 put-digits-put-byte-requires-2 : (t : ℕ) → put-digits-lts.Need-put-byte-requires-2 (
   put-byte-reads.Asked,
   put-byte-reads.Learnt,
@@ -104,7 +96,6 @@ put-digits-put-byte-requires-2 : (t : ℕ) → put-digits-lts.Need-put-byte-requ
 ) (put-digits-at t) put-digits.Post
 put-digits-put-byte-requires-2 t c κs = omega (arith, c .before .before .before .before .pre .1, ap length (digits-one (c .before .before .before .before .args .f) (c .before .before .before .before .args .n) (c .before .before .if1 .left) (c .before .if2 .taken)))
 
--- src/lib.rt:20:9
 put-digits-same-length-2 : (t : ℕ) → put-digits-lts.Need-same-length-2 (
   put-byte-reads.Asked,
   put-byte-reads.Learnt,
@@ -113,7 +104,6 @@ put-digits-same-length-2 : (t : ℕ) → put-digits-lts.Need-same-length-2 (
 ) (put-digits-at t) put-digits.Post
 put-digits-same-length-2 t c = search needs
 
--- src/lib.rt:20:9
 put-digits-returns-2 : (t : ℕ) → put-digits-lts.Need-returns-2 (
   put-byte-reads.Asked,
   put-byte-reads.Learnt,
@@ -122,7 +112,6 @@ put-digits-returns-2 : (t : ℕ) → put-digits-lts.Need-returns-2 (
 ) (put-digits-at t) put-digits.Post
 put-digits-returns-2 t c = subst (λ (s : List ℕ). (c .before .before .put-byte2 .result ≡ c .before .before .before .before .before .before .before .args .at + length s) × (c .before .before .put-byte2 .last .1 .0 ≡ put (now (c .before .before .before .before .before .before .before .args .out)) (c .before .before .before .before .before .before .before .args .at) s)) (sym (digits-one (c .before .before .before .before .before .before .before .args .f) (c .before .before .before .before .before .before .before .args .n) (c .before .before .before .before .before .if1 .left) (c .before .before .before .before .if2 .taken))) (c .before .before .put-byte2 .ensures)
 
--- src/lib.rt:22:35
 put-digits-sub-put-digits : (t : ℕ) → put-digits-lts.Need-sub-put-digits (
   put-byte-reads.Asked,
   put-byte-reads.Learnt,
@@ -131,7 +120,6 @@ put-digits-sub-put-digits : (t : ℕ) → put-digits-lts.Need-sub-put-digits (
 ) (put-digits-at t) put-digits.Post
 put-digits-sub-put-digits t c = omega arith
 
--- src/lib.rt:22:9
 put-digits-put-digits-requires : (t : ℕ) → put-digits-lts.Need-put-digits-requires (
   put-byte-reads.Asked,
   put-byte-reads.Learnt,
@@ -143,7 +131,6 @@ put-digits-put-digits-requires t c κs = (
   omega (arith, c .before .before .before .before .pre .1, ap length (digits-more (c .before .before .before .before .args .f) (c .before .before .before .before .args .n) (c .before .before .if1 .left) (c .before .if2 .left)), length-append (decimal-in (c .before .before .before .before .args .f - 1) (c .before .before .before .before .args .n / 10)) ((48 + c .before .before .before .before .args .n % 10) ∷ [])),
 )
 
--- src/lib.rt:23:19
 put-digits-cast-put-byte-3 : (t : ℕ) → put-digits-lts.Need-cast-put-byte-3 (
   put-byte-reads.Asked,
   put-byte-reads.Learnt,
@@ -152,7 +139,6 @@ put-digits-cast-put-byte-3 : (t : ℕ) → put-digits-lts.Need-cast-put-byte-3 (
 ) (put-digits-at t) put-digits.Post
 put-digits-cast-put-byte-3 t c = omega arith
 
--- src/lib.rt:23:14
 put-digits-add-put-byte-3 : (t : ℕ) → put-digits-lts.Need-add-put-byte-3 (
   put-byte-reads.Asked,
   put-byte-reads.Learnt,
@@ -161,7 +147,6 @@ put-digits-add-put-byte-3 : (t : ℕ) → put-digits-lts.Need-add-put-byte-3 (
 ) (put-digits-at t) put-digits.Post
 put-digits-add-put-byte-3 t c = omega arith
 
--- src/lib.rt:23:5
 put-digits-put-byte-requires-3 : (t : ℕ) → put-digits-lts.Need-put-byte-requires-3 (
   put-byte-reads.Asked,
   put-byte-reads.Learnt,
@@ -170,7 +155,6 @@ put-digits-put-byte-requires-3 : (t : ℕ) → put-digits-lts.Need-put-byte-requ
 ) (put-digits-at t) put-digits.Post
 put-digits-put-byte-requires-3 t c κs = omega (arith, c .before .before .before .before .before .before .before .before .pre .1, c .before .before .before .put-digits .ensures .0, c .before .before .before .put-digits .kept .1 .1 .0, ap length (digits-more (c .before .before .before .before .before .before .before .before .args .f) (c .before .before .before .before .before .before .before .before .args .n) (c .before .before .before .before .before .before .if1 .left) (c .before .before .before .before .before .if2 .left)), length-append (decimal-in (c .before .before .before .before .before .before .before .before .args .f - 1) (c .before .before .before .before .before .before .before .before .args .n / 10)) ((48 + c .before .before .before .before .before .before .before .before .args .n % 10) ∷ []))
 
--- src/lib.rt:11:1
 put-digits-same-length-3 : (t : ℕ) → put-digits-lts.Need-same-length-3 (
   put-byte-reads.Asked,
   put-byte-reads.Learnt,
@@ -179,7 +163,6 @@ put-digits-same-length-3 : (t : ℕ) → put-digits-lts.Need-same-length-3 (
 ) (put-digits-at t) put-digits.Post
 put-digits-same-length-3 t c = search needs
 
--- src/lib.rt:11:1
 put-digits-returns-3 : (t : ℕ) → put-digits-lts.Need-returns-3 (
   put-byte-reads.Asked,
   put-byte-reads.Learnt,

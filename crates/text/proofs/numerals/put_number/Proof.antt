@@ -9,27 +9,19 @@ use Rattle.text.proofs.Numbers.{number-length}
 use borrow.Author.Needs.{needs}
 use Rattle.text.proofs.numerals.put_number.Statement.{statement}
 use Rattle.text.proofs.numerals.put_number.Tie as tie
-use Rattle.text.proofs.numerals.put_number.Reads as reads
-use Rattle.text.proofs.numerals.put_number.Lts as lts
-use Rattle.text.proofs.numerals.put_byte.Reads as put-byte-reads
-use Rattle.text.proofs.numerals.put_decimal.Reads as put-decimal-reads
 
--- src/numerals.rt:49:9
 put-decimal-requires : tie.Need-put-decimal-requires
 put-decimal-requires c κs = omega (arith, c .before .before .pre, number-length (c .before .before .args .n) (c .before .before .args .last))
 
--- src/numerals.rt:50:5
 put-byte-requires : tie.Need-put-byte-requires
 put-byte-requires c κs =
     let a = c .before .before .before .before .before .before .args in
     let u = c .before .before .before .put-decimal in
     omega (arith, c .before .before .before .before .before .before .pre, number-length (a .n) (a .last), u .ensures .0, u .kept .1 .0)
 
--- src/numerals.rt:44:1
 same-length : tie.Need-same-length
 same-length c = search needs
 
--- src/numerals.rt:44:1
 returns : tie.Need-returns
 unfolding number-text
 returns c =

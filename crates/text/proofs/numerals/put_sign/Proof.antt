@@ -12,29 +12,22 @@ use Rattle.text.proofs.Signs.{negative, plain}
 use borrow.Author.Needs.{needs}
 use Rattle.text.proofs.numerals.put_sign.Statement.{statement}
 use Rattle.text.proofs.numerals.put_sign.Tie as tie
-use Rattle.text.proofs.numerals.put_sign.Reads as reads
-use Rattle.text.proofs.numerals.put_sign.Lts as lts
-use Rattle.text.proofs.numerals.put_byte.Reads as put-byte-reads
 
 minus : (c : tie.Then1) → sign (c .before .before .args .z) ≡ 45 ∷ []
 minus c = negative (c .before .before .args .z) (c .before .before .fits .z) (c .if1 .taken) .minus
 
--- src/numerals.rt:50:9
 put-byte-requires : tie.Need-put-byte-requires
 put-byte-requires c κs = omega (arith, c .before .before .before .pre, ap length (minus (c .before)))
 
--- src/numerals.rt:50:9
 same-length : tie.Need-same-length
 same-length c = search needs
 
--- src/numerals.rt:50:9
 returns : tie.Need-returns
 returns c =
     let a = c .before .before .before .before .before .before .args in
     let b = c .before .before .put-byte in
     subst (λ (s : List ℕ). Put (now (a .out)) (a .at) s (b .result) (b .last .1 .0)) (sym (minus (c .before .before .before .before))) (b .ensures)
 
--- src/numerals.rt:44:1
 returns-2 : tie.Need-returns-2
 returns-2 c =
     let a = c .before .before .args in

@@ -4,7 +4,6 @@ use mathlib.Core.Path.{_≡_, sym, ap, _∙_, subst}
 use mathlib.Core.List.{List, []}
 use mathlib.Core.Logic.{inl, inr}
 use Prim.Native.Nat.{ℕ, _-_, _^_, _≤_, _<_}
-use native.Mathlib.Omega.{arith}
 use denote.Ref.{now}
 use borrow.Author.Needs.{needs}
 use borrow.Author.Tests.{not-true, not-false}
@@ -14,11 +13,6 @@ use Rattle.visits.specs.Place.{from, to-come, ended, Found}
 use Rattle.visits.proofs.Coming.{from-over, from-stop, from-empty, start-of, start-comes, ended-comes}
 use Rattle.visits.proofs.chain.found.Statement.{statement}
 use Rattle.visits.proofs.chain.found.Tie as tie
-use Rattle.visits.proofs.chain.found.Reads as reads
-use Rattle.visits.proofs.chain.found.Lts as lts
-use Rattle.visits.proofs.chain.leading_to.Reads as leading-to-reads
-use Rattle.visits.proofs.chain.listable.Reads as listable-reads
-use Rattle.visits.proofs.chain.planned.Reads as planned-reads
 
 abbrev Inv-loop : tie.InvT-loop
 Inv-loop file start links n₀ left₀ n left = (n < 2 ^ 32) × (left ≤ links) × (from file left n ≡ from file links start)
@@ -26,15 +20,12 @@ Inv-loop file start links n₀ left₀ n left = (n < 2 ^ 32) × (left ≤ links)
 abbrev μ-loop : tie.MeasureT-loop
 μ-loop file start links n₀ left₀ n left = left
 
--- src/chain.rt:60:5
 loop-holds : tie.Need-loop-holds Inv-loop μ-loop
 loop-holds c = search needs
 
--- src/chain.rt:61:13
 listable-requires : tie.Need-listable-requires Inv-loop μ-loop
 listable-requires c κs = search needs
 
--- src/chain.rt:62:13
 leading-to-requires : tie.Need-leading-to-requires Inv-loop μ-loop
 leading-to-requires c κs = search needs
 
@@ -44,7 +35,6 @@ none file start links p e h =
     let c = ap (to-come file) e ∙ ended-comes file in
     record { same = c ∙ sym h; ready = inr c }
 
--- src/chain.rt:62:13
 returns : tie.Need-returns Inv-loop μ-loop
 returns c =
     let file = now (c .before .before .before .before .before .before .args .file) in
@@ -52,15 +42,12 @@ returns c =
     let e = from-stop file (i .left) (i .n) (sym (c .before .before .listable .ensures) ∙ not-true _ (c .before .if1 .taken)) in
     none file (c .before .before .before .before .before .before .args .start) (c .before .before .before .before .before .before .args .links) (c .leading-to .result) (c .leading-to .ensures) (sym (i .inv .2) ∙ e)
 
--- src/chain.rt:64:9
 sub-left : tie.Need-sub-left Inv-loop μ-loop
 sub-left c = search needs
 
--- src/chain.rt:65:13
 planned-requires : tie.Need-planned-requires Inv-loop μ-loop
 planned-requires c κs = search needs
 
--- src/chain.rt:67:13
 returns-2 : tie.Need-returns-2 Inv-loop μ-loop
 returns-2 c =
     let file = now (c .before .before .before .before .before .before .before .before .args .file) in
@@ -70,11 +57,9 @@ returns-2 c =
     let comes = start-comes file (i .left) (i .n) (c .before .before .before .before .before .loop-test .taken) h in
     record { same = ap (λ (r : Record). to-come file (start-of (i .n) r (i .left - 1))) e ∙ comes ∙ i .inv .2; ready = inl (c .if2 .taken) }
 
--- src/chain.rt:60:5
 loop-less : tie.Need-loop-less Inv-loop μ-loop
 loop-less c = search needs
 
--- src/chain.rt:60:5
 loop-again : tie.Need-loop-again Inv-loop μ-loop
 loop-again c =
     let file = now (c .before .before .before .before .before .before .before .before .args .file) in
@@ -88,11 +73,9 @@ loop-again c =
           ∙ i .inv .2,
     )
 
--- src/chain.rt:76:5
 leading-to-requires-2 : tie.Need-leading-to-requires-2 Inv-loop μ-loop
 leading-to-requires-2 c κs = search needs
 
--- src/chain.rt:55:1
 returns-3 : tie.Need-returns-3 Inv-loop μ-loop
 returns-3 c =
     let file = now (c .before .before .before .before .args .file) in

@@ -1,6 +1,6 @@
 -- `chain::listable` meets its contract.
 -- Assumes nothing.
-use mathlib.Core.Path.{_≡_, sym, ap, _∙_, subst}
+use mathlib.Core.Path.{sym, ap, _∙_, subst}
 use Prim.Native.Nat.{ℕ, _≤_, _<_}
 use denote.Ref.{now}
 use Rattle.stage.specs.Region.{within}
@@ -9,33 +9,22 @@ use Rattle.visits.proofs.Coming.{listable-zero, listable-past, listable
 use borrow.Author.Needs.{needs}
 use Rattle.visits.proofs.chain.listable.Statement.{statement}
 use Rattle.visits.proofs.chain.listable.Tie as tie
-use Rattle.visits.proofs.chain.listable.Reads as reads
-use Rattle.visits.proofs.chain.listable.Lts as lts
-use Rattle.region_file.proofs.record_count.Reads as record-count-reads
-use Rattle.stage.proofs.regions.Region.within.Reads as within-reads
-use Rattle.visits.proofs.chain.planned.Reads as planned-reads
 
--- src/chain.rt:22:9
 returns : tie.Need-returns
 returns c = let a = c .before .before .args in sym (listable-zero (now (a .file)) (a .n) (c .if1 .taken))
 
--- src/chain.rt:24:8
 record-count-requires : tie.Need-record-count-requires
 record-count-requires c κs = search needs
 
--- src/chain.rt:25:9
 returns-2 : tie.Need-returns-2
 returns-2 c = let a = c .before .before .before .before .args in sym (listable-past (now (a .file)) (a .n) (c .before .before .if1 .left) (subst (λ (k : ℕ). k ≤ a .n) (c .before .record-count .ensures) (c .if2 .taken)))
 
--- src/chain.rt:27:9
 planned-requires : tie.Need-planned-requires
 planned-requires c κs = search needs
 
--- src/chain.rt:29:5
 within-requires : tie.Need-within-requires
 within-requires c κs = search needs
 
--- src/chain.rt:18:1
 returns-3 : tie.Need-returns-3
 returns-3 c =
     let a = c .before .before .before .before .before .before .before .args in

@@ -1,9 +1,9 @@
 -- `place::here` meets its contract.
 -- Assumes nothing.
-use mathlib.Core.Path.{_≡_, sym, ap, ap₂, _∙_}
+use mathlib.Core.Path.{sym, ap, ap₂, _∙_}
 use lib.IntN.{ℤ}
 use mir.Syntax.{w32}
-use mir.Val.{SFits, toZ, ofZ}
+use mir.Val.{SFits}
 use mir.ValLaws.{toZ-ofZ}
 use borrow.Author.Tests.{le-leb, lt-leb}
 use Rattle.stage.specs.declared.regions.Position.{Position}
@@ -14,39 +14,29 @@ use Rattle.visits.proofs.Steps.{told, here-visit}
 use borrow.Author.Needs.{needs}
 use Rattle.visits.proofs.place.here.Statement.{statement}
 use Rattle.visits.proofs.place.here.Tie as tie
-use Rattle.visits.proofs.place.here.Reads as reads
-use Rattle.visits.proofs.place.here.Lts as lts
-use Rattle.visits.proofs.place.position_of.Reads as position-of-reads
 
--- src/place.rt:63:9
 returns : tie.Need-returns
 unfolding here
 returns c = sym (simp (le-leb _ _ (c .if1 .taken)))
 
--- src/place.rt:68:9
 position-of-requires : tie.Need-position-of-requires
 position-of-requires c κs = search needs
 
--- src/place.rt:71:19
 enum-told : tie.Need-enum-told
 enum-told c = search needs
 
--- src/place.rt:74:20
 enum-known-placed : tie.Need-enum-known-placed
 enum-known-placed c = search needs
 
--- src/place.rt:84:24
 add-t14 : tie.Need-add-t14
 add-t14 c = search needs
 
--- src/place.rt:55:1
 returns-2 : tie.Need-returns-2
 unfolding here
 returns-2 c =
     let p = c .before .before .before .before .before .before .args .place in
     sym (simp (lt-leb _ _ (c .before .before .before .if1 .left), refused-outside (p .planned) (p .index) (sym (c .before .before .position-of .ensures) ∙ ap of-placed (c .enum-told .given .1))))
 
--- src/place.rt:55:1
 returns-3 : tie.Need-returns-3
 unfolding here
 returns-3 c =

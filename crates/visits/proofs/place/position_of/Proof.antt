@@ -7,20 +7,13 @@ use Rattle.visits.specs.Visits.{position-of}
 use borrow.Author.Needs.{needs}
 use Rattle.visits.proofs.place.position_of.Statement.{statement}
 use Rattle.visits.proofs.place.position_of.Tie as tie
-use Rattle.visits.proofs.place.position_of.Reads as reads
-use Rattle.visits.proofs.place.position_of.Lts as lts
-use Rattle.plan.proofs.pair.Plan.standard_point.Reads as standard-point-reads
-use Rattle.stage.proofs.regions.Region.position.Reads as position-reads
 
--- src/place.rt:50:9
 standard-point-requires : tie.Need-standard-point-requires
 standard-point-requires c κs = search needs
 
--- src/place.rt:51:5
 position-requires : tie.Need-position-requires
 position-requires c κs = search needs
 
--- src/place.rt:46:1
 returns : tie.Need-returns
 unfolding position-of
 returns c =

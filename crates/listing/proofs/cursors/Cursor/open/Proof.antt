@@ -1,6 +1,6 @@
 -- `Cursor::open` meets its contract.
 -- Assumes nothing.
-use mathlib.Core.Path.{_≡_, sym, ap, ap₂, _∙_}
+use mathlib.Core.Path.{sym, ap, ap₂, _∙_}
 use mathlib.Core.List.{List, _++_, append-nil}
 use Prim.Native.Nat.{ℕ}
 use denote.Ref.{now}
@@ -15,40 +15,28 @@ use Rattle.listing.proofs.Putting.{lines-none}
 use borrow.Author.Needs.{needs}
 use Rattle.listing.proofs.cursors.Cursor.open.Statement.{statement}
 use Rattle.listing.proofs.cursors.Cursor.open.Tie as tie
-use Rattle.listing.proofs.cursors.Cursor.open.Reads as reads
-use Rattle.listing.proofs.cursors.Cursor.open.Lts as lts
-use Rattle.refusal.proofs.Refusal.number.Reads as number-reads
-use Rattle.visits.proofs.place.Place.ended.Reads as ended-reads
-use Rattle.visits.proofs.place.Place.open.Reads as open-reads
 
--- src/cursors.rt:51:13
 open-requires : tie.Need-open-requires
 open-requires c κs = search needs
 
--- src/cursors.rt:53:26
 enum-known-opened : tie.Need-enum-known-opened
 enum-known-opened c = search needs
 
--- src/cursors.rt:57:29
 enum-known-opened-2 : tie.Need-enum-known-opened-2
 enum-known-opened-2 c = search needs
 
--- src/cursors.rt:58:37
 number-requires : tie.Need-number-requires
 number-requires c κs = search needs
 
--- src/cursors.rt:59:24
 ended-requires : tie.Need-ended-requires
 ended-requires c κs = search needs
 
--- src/cursors.rt:48:5
 returns : tie.Need-returns
 unfolding to-come listing
 returns c =
     let file = now (c .before .before .before .before .before .args .file) in
     ap report (sym (ap (of-opened file) (c .before .opened .given .1)) ∙ c .before .before .before .«open» .ensures)
 
--- src/cursors.rt:48:5
 returns-2 : tie.Need-returns-2
 unfolding to-come listing
 returns-2 c =

@@ -1,7 +1,7 @@
 -- `Cursor::page` meets its contract.
 -- Assumes nothing.
 use mathlib.Core.Path.{_≡_, refl, sym, ap, _∙_}
-use mathlib.Core.List.{List, [], _∷_, _++_}
+use mathlib.Core.List.{List, [], _++_}
 use Prim.Native.Nat.{ℕ, _+_, _-_, _≤_, zero-le}
 use native.Mathlib.Nat.{zero-add}
 use native.Mathlib.Omega.{arith}
@@ -17,10 +17,6 @@ use Rattle.listing.proofs.Putting.{lead-longest, lines-none, joined, be
 use borrow.Author.Needs.{needs}
 use Rattle.listing.proofs.cursors.Cursor.page.Statement.{statement}
 use Rattle.listing.proofs.cursors.Cursor.page.Tie as tie
-use Rattle.listing.proofs.cursors.Cursor.page.Reads as reads
-use Rattle.listing.proofs.cursors.Cursor.page.Lts as lts
-use Rattle.listing.proofs.cursors.put_lead.Reads as put-lead-reads
-use Rattle.listing.proofs.lines.put_lines.Reads as put-lines-reads
 
 -- what is the same behind a place is the same behind a later one
 behind : (n at : ℕ) (d e : List ℕ) → at ≤ n → drop at d ≡ drop at e → drop n d ≡ drop n e
@@ -28,7 +24,6 @@ behind n at d e h q =
     let k : n ≡ at + (n - at) = omega arith in
     ap (λ (m : ℕ). drop m d) k ∙ sym (drop-drop (n - at) at d) ∙ ap (drop (n - at)) q ∙ drop-drop (n - at) at e ∙ ap (λ (m : ℕ). drop m e) (sym k)
 
--- src/cursors.rt:71:13
 returns : tie.Need-returns
 returns c =
     let a = c .before .before .before .args in
@@ -37,21 +32,17 @@ returns c =
     let none : Piece t longest-line (a .self) (a .self) [] (length d) = record { joins = refl; stops = λ h. absurd (omega (arith, h, c .if1 .taken)) } in
     ((zero-le, refl), (none, refl))
 
--- src/cursors.rt:75:13
 put-lead-requires : tie.Need-put-lead-requires
 put-lead-requires c κs = search needs
 
--- src/cursors.rt:76:13
 put-lines-requires : tie.Need-put-lines-requires
 put-lines-requires c κs =
     let u = c .before .before .before .put-lead in
     omega (arith, u .ensures .0, u .kept .1 .0, lead-longest (c .before .before .before .before .before .before .before .before .before .args .self .lead), c .before .before .before .before .before .before .if1 .left)
 
--- src/cursors.rt:65:5
 same-length : tie.Need-same-length
 same-length c = search needs
 
--- src/cursors.rt:65:5
 returns-2 : tie.Need-returns-2
 unfolding to-come
 returns-2 c =

@@ -1,7 +1,7 @@
 -- `Region::position` meets its contract.
 -- Assumes nothing.
-use mathlib.Core.Path.{_≡_, sym, ap, ap₂, _∙_}
-use mathlib.Core.Bool.{true, false, not}
+use mathlib.Core.Path.{sym, ap, ap₂, _∙_}
+use mathlib.Core.Bool.{not}
 use mathlib.Core.List.{[]}
 use lib.IntN.{ℤ}
 use native.Mathlib.Omega.{arith}
@@ -14,16 +14,10 @@ use Rattle.stage.proofs.Limits.{Within, within-has, edge-read, position
 use borrow.Author.Needs.{needs}
 use Rattle.stage.proofs.regions.Region.position.Statement.{statement}
 use Rattle.stage.proofs.regions.Region.position.Tie as tie
-use Rattle.stage.proofs.regions.Region.position.Reads as reads
-use Rattle.stage.proofs.regions.Region.position.Lts as lts
-use Rattle.stage.proofs.axis.position.Reads as position-reads
-use Rattle.stage.proofs.regions.Region.within.Reads as within-reads
 
--- src/regions.rt:49:13
 within-requires : tie.Need-within-requires
 within-requires c κs = search needs
 
--- src/regions.rt:50:13
 returns : tie.Need-returns
 returns c = sym (first-refuses _ 10 [] (sym (ap not (c .before .within .ensures)) ∙ c .if1 .taken))
 
@@ -39,13 +33,11 @@ position-requires c κs =
     let w = limits (c .before) in
     (edge-read (c .before .before .before .before .args .self .left) (search needs) (w .left), omega (arith, w .width))
 
--- src/regions.rt:56:16
 position-requires-2 : tie.Need-position-requires-2
 position-requires-2 c κs =
     let w = limits (c .before .before) in
     (edge-read (c .before .before .before .before .before .args .self .top) (search needs) (w .top), omega (arith, w .width, w .height))
 
--- src/regions.rt:46:5
 returns-2 : tie.Need-returns-2
 returns-2 c =
     let a = c .before .before .before .before .before .before .args in

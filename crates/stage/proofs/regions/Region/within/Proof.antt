@@ -8,49 +8,37 @@ use Rattle.stage.proofs.Limits.{edge-told}
 use borrow.Author.Needs.{needs}
 use Rattle.stage.proofs.regions.Region.within.Statement.{statement}
 use Rattle.stage.proofs.regions.Region.within.Tie as tie
-use Rattle.stage.proofs.regions.Region.within.Reads as reads
-use Rattle.stage.proofs.regions.Region.within.Lts as lts
-use Rattle.stage.proofs.axis.edge_within.Reads as edge-within-reads
-use Rattle.stage.proofs.axis.extent_within.Reads as extent-within-reads
 
--- src/regions.rt:32:13
 edge-within-requires : tie.Need-edge-within-requires
 edge-within-requires c κs = search needs
 
--- src/regions.rt:33:13
 returns : tie.Need-returns
 unfolding within
 returns c =
     let a = c .before .before .before .args .self in
     simp (edge-told false (a .left) (search needs) (c .before .edge-within .ensures) (not-true _ (c .if1 .taken)))
 
--- src/regions.rt:36:13
 edge-within-requires-2 : tie.Need-edge-within-requires-2
 edge-within-requires-2 c κs = search needs
 
--- src/regions.rt:37:13
 returns-2 : tie.Need-returns-2
 unfolding within
 returns-2 c =
     let a = c .before .before .before .before .before .before .args .self in
     simp (edge-told true (a .left) (search needs) (c .before .before .before .before .edge-within .ensures) (not-false _ (c .before .before .before .if1 .left)), edge-told false (a .top) (search needs) (c .before .edge-within2 .ensures) (not-true _ (c .if2 .taken)))
 
--- src/regions.rt:39:13
 extent-within-requires : tie.Need-extent-within-requires
 extent-within-requires c κs = search needs
 
--- src/regions.rt:40:13
 returns-3 : tie.Need-returns-3
 unfolding within
 returns-3 c =
     let a = c .before .before .before .before .before .before .before .before .args .self in
     simp (edge-told true (a .left) (search needs) (c .before .before .before .before .before .before .edge-within .ensures) (not-false _ (c .before .before .before .before .before .if1 .left)), edge-told true (a .top) (search needs) (c .before .before .before .edge-within2 .ensures) (not-false _ (c .before .before .if2 .left)), sym (c .before .extent-within .ensures) ∙ not-true _ (c .if3 .taken))
 
--- src/regions.rt:42:9
 extent-within-requires-2 : tie.Need-extent-within-requires-2
 extent-within-requires-2 c κs = search needs
 
--- src/regions.rt:28:5
 returns-4 : tie.Need-returns-4
 unfolding within
 returns-4 c =

@@ -1,6 +1,6 @@
 -- `Place::step` meets its contract.
 -- Assumes nothing.
-use mathlib.Core.Path.{_≡_, sym, _∙_, subst}
+use mathlib.Core.Path.{sym, _∙_, subst}
 use mathlib.Core.Logic.{inl}
 use denote.Ref.{now}
 use borrow.Author.Tests.{not-true, not-false}
@@ -11,43 +11,31 @@ use Rattle.visits.proofs.Steps.{gives-here, gives-same}
 use borrow.Author.Needs.{needs}
 use Rattle.visits.proofs.place.Place.step.Statement.{statement}
 use Rattle.visits.proofs.place.Place.step.Tie as tie
-use Rattle.visits.proofs.place.Place.step.Reads as reads
-use Rattle.visits.proofs.place.Place.step.Lts as lts
-use Rattle.stage.proofs.regions.Region.within.Reads as within-reads
-use Rattle.visits.proofs.chain.found.Reads as found-reads
-use Rattle.visits.proofs.place.here.Reads as here-reads
 
--- src/place.rt:109:13
 here-requires : tie.Need-here-requires
 here-requires c κs = search needs
 
--- src/place.rt:109:13
 returns : tie.Need-returns
 returns c =
     let a = c .before .before .before .before .before .before .args in
     let file = now (a .file) in
     subst (λ (s : Stepped). Gives file (a .self) (s .step) (s .place)) (sym (c .here .ensures)) (gives-here file (a .self) (inl (c .before .if1 .taken)))
 
--- src/place.rt:112:13
 within-requires : tie.Need-within-requires
 within-requires c κs = search needs
 
--- src/place.rt:113:13
 returns-2 : tie.Need-returns-2
 returns-2 c =
     let a = c .before .before .before .before .before .before .before .before .args in
     let e = to-come-outside (now (a .file)) (a .self) (sym (c .before .within .ensures) ∙ not-true _ (c .if2 .taken)) in
     (e, e)
 
--- src/place.rt:118:14
 found-requires : tie.Need-found-requires
 found-requires c κs = search needs
 
--- src/place.rt:118:9
 here-requires-2 : tie.Need-here-requires-2
 here-requires-2 c κs = search needs
 
--- src/place.rt:104:5
 returns-3 : tie.Need-returns-3
 returns-3 c =
     let a = c .before .before .before .before .before .before .before .before .before .before .args in
