@@ -17,7 +17,8 @@ use Rattle.listing.specs.Cursor.{lead-text}
 
 -- the four fields of a line, put one after the other
 pub line-put : (v : Visit) (d : List ℕ) (at : ℕ) (r₁ : ℕ) (e₁ : List ℕ) (r₂ : ℕ) (e₂ : List ℕ) (r₃ : ℕ) (e₃ : List ℕ) (r₄ : ℕ) (e₄ : List ℕ)
-    → at + longest-line ≤ length d → Wrote longest-number d at (number-text (v .number) 32) r₁ e₁ → Wrote longest-number e₁ r₁ (number-text (v .index) 32) r₂ e₂
+    → at + longest-line ≤ length d → Wrote longest-number d at (number-text (v .number) 32) r₁ e₁ → Wrote longest-number e₁ r₁
+    (number-text (v .index) 32) r₂ e₂
     → Wrote longest-signed e₂ r₂ (signed-text (v .x) 32) r₃ e₃ → Wrote longest-signed e₃ r₃ (signed-text (v .y) 10) r₄ e₄ → Put d at (line v) r₄ e₄
 unfolding line
 line-put v d at r₁ e₁ r₂ e₂ r₃ e₃ r₄ e₄ h w₁ w₂ w₃ w₄ =
@@ -54,7 +55,16 @@ line-longest v =
     let s₂ = number-text (v .index) 32 in
     let s₃ = signed-text (v .x) 32 in
     let s₄ = signed-text (v .y) 10 in
-    omega (arith, length-append s₁ (s₂ ++ (s₃ ++ s₄)), length-append s₂ (s₃ ++ s₄), length-append s₃ s₄, number-longest (v .number) 32, number-longest (v .index) 32, signed-longest (v .x) 32, signed-longest (v .y) 10)
+    omega (
+      arith,
+      length-append s₁ (s₂ ++ (s₃ ++ s₄)),
+      length-append s₂ (s₃ ++ s₄),
+      length-append s₃ s₄,
+      number-longest (v .number) 32,
+      number-longest (v .index) 32,
+      signed-longest (v .x) 32,
+      signed-longest (v .y) 10,
+    )
 
 pub line-some : (v : Visit) → 0 < length (line v)
 unfolding line

@@ -1,11 +1,12 @@
 -- What is still to come from a cursor, whatever its fields and the file.
 use Prim.Native.Nat.{ℕ}
 use mathlib.Core.List.{List, [], _++_}
+use Rattle.text.specs.Pieces.{Piece}
 use Rattle.visits.specs.Place.{to-come as visits-to-come}
 use Rattle.listing.specs.declared.cursors.Lead.{Lead}
 use Rattle.listing.specs.declared.cursors.Lead.the-variants as lead
 use Rattle.listing.specs.declared.cursors.Cursor.{Cursor}
-use Rattle.listing.specs.Listing.{header, refused-text, lines}
+use Rattle.listing.specs.Listing.{header, refused-text, lines, longest-line}
 
 abbrev pub lead-text : Lead → List ℕ
 lead-text lead.Nothing = []
@@ -14,3 +15,7 @@ lead-text (lead.Refused n) = refused-text n
 
 unfoldable pub to-come : List ℕ → Cursor → List ℕ
 to-come file c = lead-text (c .lead) ++ lines (visits-to-come file (c .place))
+
+-- what a call of `page` gives in a buffer of `room` bytes: the piece, and the cursor past it
+abbrev pub Paged : List ℕ → Cursor → Cursor → List ℕ → ℕ → Type 0
+Paged file = Piece (to-come file) longest-line

@@ -6,9 +6,9 @@ ghost use mathlib.Core.Path.{_≡_};
 ghost use Prim.Native.Nat.{_≤_};
 ghost use lib.ListN.{length, take, drop};
 ghost use Rattle.text.specs.Put.{put};
-ghost use Rattle.text.specs.Pieces.{Piece, Counts};
+ghost use Rattle.text.specs.Pieces.{Counts};
 ghost use Rattle.listing.specs.Listing.{listing, longest-line};
-ghost use Rattle.listing.specs.Cursor.{lead-text, to-come};
+ghost use Rattle.listing.specs.Cursor.{lead-text, to-come, Paged};
 
 // What stands before the lines that are still to come.
 pub enum Lead {
@@ -64,7 +64,7 @@ impl Cursor {
     // The next piece, as long as the buffer has room for the longest line; bytes past it keep their content.
     pub fn page(self, file: &[u8], out: &mut [u8]) -> Page
         ensures counts { λ r. ⌜ Counts (r .len) (now (out .exit)) ⌝ }
-        ensures piece { λ r. ⌜ Piece (to-come (now (file .entry))) longest-line self (r .next) (take (r .len) (now (out .exit))) (length (now (out .exit))) ⌝ }
+        ensures piece { λ r. ⌜ Paged (now (file .entry)) self (r .next) (take (r .len) (now (out .exit))) (length (now (out .exit))) ⌝ }
         ensures rest { λ r. ⌜ drop (r .len) (now (out .exit)) ≡ drop (r .len) (now (out .entry)) ⌝ }
     {
         if out.len() < 46 {

@@ -34,7 +34,13 @@ module _ {A : Type 0} {after : Outcome A} {b : A} (limit : ℕ) (file : List ℕ
       let two = first-accepted after 14 later seen (one .1) in
       let three = first-accepted after 10 last (not (within (r .region))) (two .1) in
       let four = first-accepted after 15 [] (ltb limit (r .count)) (three .1) in (
-        record { here = leb-false (records file) n (one .0); fresh = two .0; inside = not-false _ (three .0); few = ltb-false limit (r .count) (four .0) },
+        record {
+          here = leb-false (records file) n (one .0);
+          fresh = two .0;
+          inside = not-false _ (three .0);
+          few = ltb-false limit (r .count)
+              (four .0);
+        },
         sym (first-none after) ∙ four .1,
       )
 
@@ -49,12 +55,14 @@ module _ (limit : ℕ) (file : List ℕ) where
         → chain limit file links v n ≡ refused k vs
     unfolding chain
     chain-refused zero p e = absurd (lt-irrefl 0 p)
-    chain-refused (suc links) p e = simp (ne-eqb n 0 ne) (refused-before tt (chain limit file links (also n v) (record-at file n .next)) (link-tests limit file (v n) n) e)
+    chain-refused (suc links) p e = simp (ne-eqb n 0 ne)
+        (refused-before tt (chain limit file links (also n v) (record-at file n .next)) (link-tests limit file (v n) n) e)
 
     pub chain-next : (links : ℕ) → link-outcome limit file (v n) n ≡ accepted tt
         → chain limit file (suc links) v n ≡ chain limit file links (also n v) (record-at file n .next)
     unfolding chain
-    chain-next links e = simp (ne-eqb n 0 ne) (passed-before tt (chain limit file links (also n v) (record-at file n .next)) (link-tests limit file (v n) n) e)
+    chain-next links e = simp (ne-eqb n 0 ne)
+        (passed-before tt (chain limit file links (also n v) (record-at file n .next)) (link-tests limit file (v n) n) e)
 
   -- an accepted chain has ended, or names a record that passes and goes on
   pub record Linked (links : ℕ) (v : ℕ → Bool) (n : ℕ) : Type 0 where
@@ -98,7 +106,8 @@ pub whole-few : (bytes : ℕ) → whole bytes ≡ true → bytes / 32 ≤ most-r
 whole-few bytes e = let m = whole-has bytes e .most in omega (arith, m)
 
 -- what an accepted file has
-pub judged-chain : (limit : ℕ) (file : List ℕ) → judge-outcome limit file ≡ accepted tt → chain limit file most-records nowhere (first-record file) ≡ accepted tt
+pub judged-chain : (limit : ℕ) (file : List ℕ) → judge-outcome limit file ≡ accepted tt → chain limit file most-records nowhere (first-record file)
+    ≡ accepted tt
 unfolding judge-outcome
 judged-chain limit file e =
     let after = chain limit file most-records nowhere (first-record file) in

@@ -20,7 +20,8 @@ use Rattle.region_file.proofs.Marks.{marked, free, free-fresh, fresh-at
 module _ (limit : ℕ) (file : List ℕ) (few : records file ≤ most-records) where
   -- one link of each, where the rest is the same
   step : (f g : ℕ) (v : ℕ → Bool) (n : ℕ)
-      → ((n ≡ 0 → ⊥) → Passed limit file (v n) n → chain limit file f (also n v) (record-at file n .next) ≡ chain limit file g (also n v) (record-at file n .next))
+      → ((n ≡ 0 → ⊥) → Passed limit file (v n) n → chain limit file f (also n v) (record-at file n .next) ≡ chain limit file g (also n v)
+      (record-at file n .next))
       → chain limit file (suc f) v n ≡ chain limit file (suc g) v n
   unfolding chain
   step f g v n same = go (eqb n 0) refl
@@ -59,5 +60,6 @@ chains-end limit file links n w h =
     let ms : List ℕ = replicate most-records 0 in
     let e : free ms ≡ most-records = free-fresh most-records in
     ap (λ (v : ℕ → Bool). chain limit file links v n) (sym (marked-fresh most-records))
-    ∙ same limit file (whole-few (length file) w) links most-records ms n (length-replicate {A = ℕ} most-records 0) (fresh-at most-records 0) (omega arith) (omega arith)
+    ∙ same limit file (whole-few (length file) w) links most-records ms n (length-replicate {A = ℕ} most-records 0) (fresh-at most-records 0)
+    (omega arith) (omega arith)
     ∙ ap (λ (v : ℕ → Bool). chain limit file most-records v n) (marked-fresh most-records)

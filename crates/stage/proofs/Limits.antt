@@ -1,20 +1,18 @@
 -- What a region within its limits has, and positions in it.
 -- Assumes nothing.
 use mathlib.Core.Path.{_≡_, refl, sym, ap, _∙_}
-use Prim.Native.Nat.{ℕ, _≤_, _<_, _^_}
+use Prim.Native.Nat.{ℕ, _≤_}
 use mathlib.Core.Bool.{Bool, true, false, _&&_, not, true≢false}
 use lib.Dec.{ltb}
 use lib.IntN.{ℤ}
-use lib.Signed.{mag}
 use mir.Syntax.{w32}
 use mir.Val.{SFits, ofZ, toZ}
 use mir.ValLaws.{toZ-ofZ}
-use native.Mathlib.Nat.{le-trans}
 use borrow.Author.Tests.{ltb-false}
 use Rattle.stage.specs.declared.regions.Region.{Region}
 use Rattle.stage.specs.Position.{edge-within, extent-within, position, largest-extent}
-use Rattle.stage.specs.Region.{within, place}
-use Rattle.stage.proofs.Sums.{read-back, offset-le, moved-small}
+use Rattle.stage.specs.Region.{within}
+use Rattle.stage.proofs.Sums.{read-back}
 
 -- an answer about an edge, as the caller has the edge
 pub edge-told : (b : Bool) {r : Bool} (e : ℤ) → SFits w32 e → r ≡ edge-within (toZ w32 (ofZ w32 e)) → r ≡ b → edge-within e ≡ b
@@ -25,7 +23,8 @@ pub edge-read : (e : ℤ) → SFits w32 e → edge-within e ≡ true → edge-wi
 edge-read e f p = ap edge-within (toZ-ofZ w32 e f) ∙ p
 
 -- a position, as the machine hands it on, of an edge that the machine has read
-pub position-told : {z : ℤ} (e : ℤ) (x w : ℕ) → SFits w32 e → SFits w32 z → z ≡ position (toZ w32 (ofZ w32 e)) x w → toZ w32 (ofZ w32 z) ≡ position e x w
+pub position-told : {z : ℤ} (e : ℤ) (x w : ℕ) → SFits w32 e → SFits w32 z → z ≡ position (toZ w32 (ofZ w32 e)) x w → toZ w32 (ofZ w32 z)
+    ≡ position e x w
 position-told {z} e x w f g p = toZ-ofZ w32 z g ∙ p ∙ ap (λ (y : ℤ). position y x w) (toZ-ofZ w32 e f)
 
 both : (a b : Bool) → (a && b) ≡ true → (a ≡ true) × (b ≡ true)
@@ -52,10 +51,3 @@ within-has r e =
     let second = both _ _ (first .0) in
     let third = both _ _ (second .0) in
     record { left = third .0; top = third .1; width = extent-most (r .width) (second .1); height = extent-most (r .height) (first .1) }
-
--- positions in it are small numbers
-pub place-small : (r : Region) (x y : ℕ) → within r ≡ true → x < 2 ^ 32 → y < 2 ^ 32
-    → (mag (place r x y .x) < 2 ^ 30) × (mag (place r x y .y) < 2 ^ 30)
-place-small r x y e hx hy =
-    let w = within-has r e in
-    (moved-small (r .left) _ (w .left) (le-trans (offset-le x (r .width) hx) (w .width)), moved-small (r .top) _ (w .top) (le-trans (offset-le y (r .height) hy) (w .height)))

@@ -22,4 +22,5 @@ pub record Piece {C : Type 0} (to-come : C → List ℕ) (w : ℕ) (c d : C) (pi
 -- calls one after the other, each from the cursor that the one before handed back, with any buffers
 pub data Pieces {C : Type 0} (to-come : C → List ℕ) (w : ℕ) : C → List (List ℕ) → C → Type 0 where
   none : (c : C) → Pieces to-come w c [] c
-  more : (c d e : C) (p : List ℕ) (ps : List (List ℕ)) (room : ℕ) → Piece to-come w c d p room → Pieces to-come w d ps e → Pieces to-come w c (p ∷ ps) e
+  more : (c d e : C) (p : List ℕ) (ps : List (List ℕ)) (room : ℕ) → Piece to-come w c d p room → Pieces to-come w d ps e → Pieces to-come w c
+      (p ∷ ps) e

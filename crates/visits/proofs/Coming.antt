@@ -98,7 +98,8 @@ from-more file (suc links) n p h =
 pub from-empty : (file : List ℕ) (links n : ℕ) → 0 < links → listable file n ≡ true → planned file n .count ≤ 0
     → from file links n ≡ from file (links - 1) (planned file n .next)
 from-empty file links n p h e =
-    from-more file links n p h ∙ ap (λ (l : List Visit). l ++ from file (links - 1) (planned file n .next)) (run-none n (planned file n) 0 (planned file n .count) e)
+    from-more file links n p h ∙ ap (λ (l : List Visit). l ++ from file (links - 1) (planned file n .next))
+    (run-none n (planned file n) 0 (planned file n .count) e)
 
 -- ---- a place
 
@@ -116,7 +117,8 @@ module _ (file : List ℕ) (p : Place) where
   pub to-come-next : within (p .planned .region) ≡ true → p .planned .count ≤ p .index → to-come file p ≡ from file (p .links) (p .planned .next)
   to-come-next e h =
       let none : p .planned .count - p .index ≤ 0 = omega arith in
-      to-come-within e ∙ ap (λ (l : List Visit). l ++ from file (p .links) (p .planned .next)) (run-none (p .number) (p .planned) (p .index) (p .planned .count - p .index) none)
+      to-come-within e ∙ ap (λ (l : List Visit). l ++ from file (p .links) (p .planned .next))
+      (run-none (p .number) (p .planned) (p .index) (p .planned .count - p .index) none)
 
 -- its first visit, and the place past it
 pub to-come-first : (file : List ℕ) (p : Place) → within (p .planned .region) ≡ true → p .index < p .planned .count
@@ -136,7 +138,8 @@ to-come-first file p e h =
 abbrev pub start-of : ℕ → Record → ℕ → Place
 start-of n r links = record { number = n; planned = r; index = 0; links = links }
 
-pub start-comes : (file : List ℕ) (links n : ℕ) → 0 < links → listable file n ≡ true → to-come file (start-of n (planned file n) (links - 1)) ≡ from file links n
+pub start-comes : (file : List ℕ) (links n : ℕ) → 0 < links → listable file n ≡ true → to-come file (start-of n (planned file n) (links - 1))
+    ≡ from file links n
 start-comes file links n p h =
     let r = planned file n in
     let all : r .count - 0 ≡ r .count = omega arith in
@@ -165,7 +168,8 @@ unfolding from numbers of-records
 from-accepted limit file zero v n h = refl
 from-accepted limit file (suc links) v n h = go (linked limit file links v n h) (λ v n h. from-accepted limit file links v n h)
   where
-    go : (n ≡ 0) ⊎ Linked limit file links v n → ((v : ℕ → Bool) (n : ℕ) → chain limit file links v n ≡ accepted tt → from file links n ≡ of-records file (numbers file links n))
+    go : (n ≡ 0) ⊎ Linked limit file links v n →
+        ((v : ℕ → Bool) (n : ℕ) → chain limit file links v n ≡ accepted tt → from file links n ≡ of-records file (numbers file links n))
         → from file (suc links) n ≡ of-records file (numbers file (suc links) n)
     go (inl e) more = simp (listable-zero file n e, eq-eqb n 0 e)
     go (inr l) more = simp (listable-region file n (l .some) (l .link .here) ∙ l .link .inside, ne-eqb n 0 (l .some), more _ _ (l .rest))

@@ -39,7 +39,8 @@ gives-here file p ready = go (leb (p .planned .count) (p .index)) refl (within (
     ended : to-come file p ≡ [] → (to-come file p ≡ []) × (to-come file p ≡ [])
     ended e = (e, e)
 
-    go : (a : Bool) → leb (p .planned .count) (p .index) ≡ a → (b : Bool) → within (p .planned .region) ≡ b → (p .index < p .planned .count) ⊎ (to-come file p ≡ [])
+    go : (a : Bool) → leb (p .planned .count) (p .index) ≡ a → (b : Bool) → within (p .planned .region) ≡ b → (p .index < p .planned .count) ⊎
+        (to-come file p ≡ [])
         → Gives file p (here p .step) (here p .place)
     go false ea true eb ready = simp (ea, eb) (to-come-first file p eb (leb-false _ _ ea))
     go false ea false eb ready = simp (ea, eb) (ended (to-come-outside file p eb))

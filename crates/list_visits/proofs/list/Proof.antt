@@ -49,7 +49,14 @@ loop-less : tie.Need-loop-less Inv-loop μ-loop
 loop-less c =
     let p = c .before .before .before .before .before .before .page in
     let file = now (c .before .before .before .before .before .before .before .before .before .before .before .before .args .file) in
-    omega (arith, c .before .before .before .before .if1 .left, p .ensures .0 .1, ap length (p .ensures .1 .0 .joins), length-append (take (p .result .len) (p .last .1 .1 .0)) (to-come file (p .result .next)))
+    omega (
+      arith,
+      c .before .before .before .before .if1 .left,
+      p .ensures .0 .1,
+      ap length (p .ensures .1 .0 .joins),
+      length-append
+          (take (p .result .len) (p .last .1 .1 .0)) (to-come file (p .result .next)),
+    )
 
 loop-again : tie.Need-loop-again Inv-loop μ-loop
 loop-again c = search needs

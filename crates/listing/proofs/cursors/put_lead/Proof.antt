@@ -50,7 +50,8 @@ led : (d s : List ℕ) (r : ℕ) (e : List ℕ) → Put d 0 s r e → Led d s r 
 led d s r e p = (p .0 ∙ zero-add (length s), p .1)
 
 returns : tie.Need-returns
-returns c = let d = now (c .before .before .before .args .out) in subst (λ (k : Lead). Led d (lead-text k) 0 d) (sym (c .enum-told .given .1)) (refl, sym (put-nothing d 0))
+returns c = let d = now (c .before .before .before .args .out) in subst (λ (k : Lead). Led d (lead-text k) 0 d) (sym (c .enum-told .given .1))
+    (refl, sym (put-nothing d 0))
 
 same-length : tie.Need-same-length
 same-length c = search needs
@@ -61,7 +62,9 @@ returns-2 c =
     let d = now (a .out) in
     let u = c .before .before .bytes in
     subst (λ (k : Lead). Led d (lead-text k) (u .result) (u .last .1 .0)) (sym (c .before .before .before .before .before .enum-told2 .given .1))
-    (led d header (u .result) (u .last .1 .0) (wrote-put (length header) d 0 header (u .result) (u .last .1 .0) (omega (arith, c .before .before .before .before .before .before .before .before .pre)) (u .ensures)))
+    (led d header (u .result) (u .last .1 .0)
+    (wrote-put (length header) d 0 header (u .result) (u .last .1 .0)
+    (omega (arith, c .before .before .before .before .before .before .before .before .pre)) (u .ensures)))
 
 same-length-2 : tie.Need-same-length-2
 same-length-2 c = search needs
@@ -74,13 +77,23 @@ returns-3 c =
     let u = c .before .before .before .before .before .before .bytes2 in
     let v = c .before .before .number in
     let n = c .before .before .before .before .before .before .before .before .before .before .lead .given .0 .0 in
-    let p : Put d 0 refused-word (u .result) (u .last .1 .0) = wrote-put 8 d 0 refused-word (u .result) (u .last .1 .0) (omega (arith, c .before .before .before .before .before .before .before .before .before .before .before .before .before .pre)) (u .ensures) in
-    let l : length (u .last .1 .0) ≡ length d = put-keeps d 0 refused-word (u .result) (u .last .1 .0) p (omega (arith, c .before .before .before .before .before .before .before .before .before .before .before .before .before .pre)) in
+    let p : Put d 0 refused-word (u .result) (u .last .1 .0) = wrote-put 8 d 0 refused-word (u .result) (u .last .1 .0)
+    (omega (arith, c .before .before .before .before .before .before .before .before .before .before .before .before .before .pre)) (u .ensures) in
+    let l : length (u .last .1 .0) ≡ length d = put-keeps d 0 refused-word (u .result) (u .last .1 .0) p
+    (omega (arith, c .before .before .before .before .before .before .before .before .before .before .before .before .before .pre)) in
     let q : Put (u .last .1 .0) (u .result) (number-text n 10) (v .result) (v .last .1 .1 .0) =
-    wrote-put longest-number (u .last .1 .0) (u .result) (number-text n 10) (v .result) (v .last .1 .1 .0) (omega (arith, c .before .before .before .before .before .before .before .before .before .before .before .before .before .pre, p .0, l)) (v .ensures) in
-    subst (λ (k : Lead). Led d (lead-text k) (v .result) (v .last .1 .1 .0)) (sym (c .before .before .before .before .before .before .before .before .before .before .lead .given .1))
+    wrote-put longest-number (u .last .1 .0) (u .result) (number-text n 10) (v .result) (v .last .1 .1 .0)
+    (omega (arith, c .before .before .before .before .before .before .before .before .before .before .before .before .before .pre, p .0, l))
+    (v .ensures) in
+    subst (λ (k : Lead). Led d (lead-text k) (v .result) (v .last .1 .1 .0))
+    (sym (c .before .before .before .before .before .before .before .before .before .before .lead .given .1))
     (led d (refused-text n) (v .result) (v .last .1 .1 .0)
-    (put-then d 0 refused-word (number-text n 10) (u .result) (u .last .1 .0) (v .result) (v .last .1 .1 .0) p q (omega (arith, c .before .before .before .before .before .before .before .before .before .before .before .before .before .pre, number-longest n 10))))
+    (put-then d 0 refused-word (number-text n 10) (u .result) (u .last .1 .0) (v .result) (v .last .1 .1 .0) p q
+    (omega (
+      arith,
+      c .before .before .before .before .before .before .before .before .before .before .before .before .before .pre,
+      number-longest n 10,
+    ))))
 
 pub put-lead-spec : {M : Type 1} → statement M
 put-lead-spec =

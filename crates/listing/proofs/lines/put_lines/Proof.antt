@@ -51,7 +51,8 @@ returns c =
     let l = c .before .before .before .before .before .loop in
     let s = c .before .before .before .step in
     let file = now (a .file) in
-    let g : (to-come file (l .place) ≡ []) × (to-come file (s .result .place) ≡ []) = subst (λ (k : Step). Gives file (l .place) k (s .result .place)) (c .enum-told .given .1) (s .ensures) in
+    let g : (to-come file (l .place) ≡ []) × (to-come file (s .result .place) ≡ []) = subst
+    (λ (k : Step). Gives file (l .place) k (s .result .place)) (c .enum-told .given .1) (s .ensures) in
     record {
       on = l .inv .0;
       fits = l .inv .1;
@@ -61,13 +62,26 @@ returns c =
     }
 
 put-line-requires : tie.Need-put-line-requires Inv-loop μ-loop
-put-line-requires c κs = omega (arith, c .before .before .before .before .before .before .before .loop .inv .1, c .before .before .before .before .before .before .loop-test .taken)
+put-line-requires c κs = omega (
+  arith,
+  c .before .before .before .before .before .before .before .loop .inv .1,
+  c .before .before .before .before .before .before .loop-test .taken,
+)
 
 loop-less : tie.Need-loop-less Inv-loop μ-loop
 loop-less c =
     let l = c .before .before .before .before .before .before .before .before .before .before .loop in
     let u = c .before .before .put-line in
-    omega (arith, l .inv .1, c .before .before .before .before .before .before .before .before .before .loop-test .taken, u .ensures .0, u .kept .1 .0, line-some (c .before .before .before .before .before .answer .given .0 .0), line-longest (c .before .before .before .before .before .answer .given .0 .0))
+    omega (
+      arith,
+      l .inv .1,
+      c .before .before .before .before .before .before .before .before .before .loop-test .taken,
+      u .ensures .0,
+      u .kept .1 .0,
+      line-some (c .before .before .before .before .before .answer .given .0 .0),
+      line-longest
+          (c .before .before .before .before .before .answer .given .0 .0),
+    )
 
 loop-again : tie.Need-loop-again Inv-loop μ-loop
 loop-again c =
@@ -79,9 +93,17 @@ loop-again c =
     let file = now (a .file) in
     let e = u .last .1 .0 in
     let rest = to-come file (s .result .place) in
-    let g : to-come file (l .place) ≡ v ∷ rest = subst (λ (k : Step). Gives file (l .place) k (s .result .place)) (c .before .before .before .before .before .answer .given .1) (s .ensures) in (
+    let g : to-come file (l .place) ≡ v ∷ rest = subst (λ (k : Step). Gives file (l .place) k (s .result .place))
+    (c .before .before .before .before .before .answer .given .1) (s .ensures) in (
       omega (arith, l .inv .0, u .ensures .0),
-      omega (arith, l .inv .1, c .before .before .before .before .before .before .before .before .before .loop-test .taken, u .ensures .0, u .kept .1 .0, line-longest v),
+      omega (
+        arith,
+        l .inv .1,
+        c .before .before .before .before .before .before .before .before .before .loop-test .taken,
+        u .ensures .0,
+        u .kept .1 .0,
+        line-longest v,
+      ),
       u .kept .1 .0 ∙ l .inv .2,
       joined (l .out) e (l .len) (u .result) (line v) (l .inv .1) (u .ensures) (lines rest)
           ∙ ap (λ (t : List ℕ). take (l .len) (l .out) ++ t) (sym (lines-more v rest) ∙ ap lines (sym g))

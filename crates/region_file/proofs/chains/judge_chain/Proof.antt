@@ -9,7 +9,7 @@ use denote.Ref.{now}
 use lib.ListN.{length, getD, set, length-set, length-replicate}
 use lib.Seq.{getD-set-other}
 use borrow.Author.Needs.{needs}
-use Rattle.refusal.specs.Outcome.{Outcome, accepted}
+use Rattle.refusal.specs.Outcome.{accepted}
 use Rattle.refusal.specs.Refusal.{of-judgement}
 use Rattle.region_file.specs.declared.fields.Record.{Record}
 use Rattle.region_file.specs.Fields.{first-record, records, most-records}
@@ -27,22 +27,18 @@ Inv-loop file limit marks₀ n₀ marks n =
 abbrev μ-loop : tie.MeasureT-loop
 μ-loop file limit marks₀ n₀ marks n = free marks
 
--- what the tests of the link come to, by the marks
-told : (limit : ℕ) (file ms : List ℕ) (n : ℕ) (b : Bool) (o : Outcome Unit) → b ≡ marked ms n → o ≡ link-outcome limit file b n
-    → link-outcome limit file (marked ms n) n ≡ o
-told limit file ms n b o eb eo = sym (eo ∙ ap (λ (x : Bool). link-outcome limit file x n) eb)
-
 -- a link that passes names an unmarked record of the file
 record Taken (limit : ℕ) (file ms : List ℕ) (n : ℕ) : Type 0 where
+  pub passes : link-outcome limit file (marked ms n) n ≡ accepted tt
   pub here : n < length ms
   pub clear : getD ms n 0 ≡ 0
 
-taken : (limit : ℕ) (file ms : List ℕ) (n : ℕ) → records file ≤ most-records → length ms ≡ most-records → link-outcome limit file (marked ms n) n ≡ accepted tt
-    → Taken limit file ms n
+taken : (limit : ℕ) (file ms : List ℕ) (n : ℕ) → records file ≤ most-records → length ms ≡ most-records
+    → link-outcome limit file (marked ms n) n ≡ accepted tt → Taken limit file ms n
 taken limit file ms n few l h =
     let p = passed limit file (marked ms n) n h .0 in
     let o = p .here in
-    record { here = omega (arith, o); clear = unmarked ms n (p .fresh) }
+    record { passes = h; here = omega (arith, o); clear = unmarked ms n (p .fresh) }
 
 first-record-requires : tie.Need-first-record-requires Inv-loop μ-loop
 first-record-requires c κs = search needs
@@ -72,57 +68,67 @@ judge-link-requires c κs = search needs
 enum-known-judged : tie.Need-enum-known-judged Inv-loop μ-loop
 enum-known-judged c = search needs
 
-returns : tie.Need-returns Inv-loop μ-loop
+-- what the tests of the link come to, by the marks
+told : (c : tie.After-judge-link Inv-loop μ-loop)
+    → link-outcome (c .before .before .before .before .before .before .before .args .limit)
+    (now (c .before .before .before .before .before .before .before .args .file))
+    (marked (c .before .before .before .before .loop .marks) (c .before .before .before .before .loop .n))
+    (c .before .before .before .before .loop .n)
+    ≡ of-judgement (c .judge-link .result)
 unfolding marked
+told c =
+    let a = c .before .before .before .before .before .before .before .args in
+    sym (c .judge-link .ensures ∙ ap (λ (x : Bool). link-outcome (a .limit) (now (a .file)) x (c .before .before .before .before .loop .n))
+    (c .before .is-marked .ensures))
+
+returns : tie.Need-returns Inv-loop μ-loop
 returns c =
     let a = c .before .before .before .before .before .before .before .before .before .before .args in
     let i = c .before .before .before .before .before .before .before .loop in
-    let j = c .before .before .before .judge-link in
-    sym (chain-refused (a .limit) (now (a .file)) (marked (i .marks)) (i .n) (c .before .before .before .before .before .before .loop-test .taken) (free (i .marks)) (free-some (i .marks) (i .inv .0) (i .inv .1))
-    (told (a .limit) (now (a .file)) (i .marks) (i .n) (c .before .before .before .before .is-marked .result) (of-judgement (j .result)) (c .before .before .before .before .is-marked .ensures) (j .ensures) ∙ ap of-judgement (c .before .judged .given .1))) ∙ i .inv .3
+    sym (chain-refused (a .limit) (now (a .file)) (marked (i .marks)) (i .n) (c .before .before .before .before .before .before .loop-test .taken)
+    (free (i .marks))
+    (free-some (i .marks) (i .inv .0) (i .inv .1)) (told (c .before .before .before) ∙ ap of-judgement (c .before .judged .given .1)))
+    ∙ i .inv .3
 
 enum-told : tie.Need-enum-told Inv-loop μ-loop
 enum-told c = search needs
 
-array-write-marks : tie.Need-array-write-marks Inv-loop μ-loop
-unfolding marked
-array-write-marks c =
+took : (c : tie.After-enum-told Inv-loop μ-loop) → Taken (c .before .before .before .before .before .before .before .before .before .args .limit)
+    (now (c .before .before .before .before .before .before .before .before .before .args .file))
+    (c .before .before .before .before .before .before .loop .marks) (c .before .before .before .before .before .before .loop .n)
+took c =
     let a = c .before .before .before .before .before .before .before .before .before .args in
     let i = c .before .before .before .before .before .before .loop in
-    let j = c .before .before .judge-link in
-    let e = told (a .limit) (now (a .file)) (i .marks) (i .n) (c .before .before .before .is-marked .result) (of-judgement (j .result)) (c .before .before .before .is-marked .ensures) (j .ensures) ∙ ap of-judgement (c .enum-told .given .1) in
-    let t = taken (a .limit) (now (a .file)) (i .marks) (i .n) (c .before .before .before .before .before .before .before .before .before .pre) (i .inv .0) e in
-    omega (arith, t .here)
+    taken (a .limit) (now (a .file)) (i .marks) (i .n) (c .before .before .before .before .before .before .before .before .before .pre) (i .inv .0)
+    (told (c .before .before) ∙ ap of-judgement (c .enum-told .given .1))
+
+array-write-marks : tie.Need-array-write-marks Inv-loop μ-loop
+array-write-marks c = let t = took c in omega (arith, t .here)
 
 record-at-requires : tie.Need-record-at-requires Inv-loop μ-loop
 record-at-requires c κs = search needs
 
 loop-less : tie.Need-loop-less Inv-loop μ-loop
-unfolding marked
 loop-less c =
-    let a = c .before .before .before .before .before .before .before .before .before .before .args in
     let i = c .before .before .before .before .before .before .before .loop in
-    let j = c .before .before .before .judge-link in
-    let e = told (a .limit) (now (a .file)) (i .marks) (i .n) (c .before .before .before .before .is-marked .result) (of-judgement (j .result)) (c .before .before .before .before .is-marked .ensures) (j .ensures) ∙ ap of-judgement (c .before .enum-told .given .1) in
-    let t = taken (a .limit) (now (a .file)) (i .marks) (i .n) (c .before .before .before .before .before .before .before .before .before .before .pre) (i .inv .0) e in
+    let t = took (c .before) in
     omega (arith, free-set (i .marks) (i .n) (t .here) (t .clear))
 
 loop-again : tie.Need-loop-again Inv-loop μ-loop
-unfolding marked
 loop-again c =
     let a = c .before .before .before .before .before .before .before .before .before .before .args in
     let i = c .before .before .before .before .before .before .before .loop in
-    let j = c .before .before .before .judge-link in
-    let e = told (a .limit) (now (a .file)) (i .marks) (i .n) (c .before .before .before .before .is-marked .result) (of-judgement (j .result)) (c .before .before .before .before .is-marked .ensures) (j .ensures) ∙ ap of-judgement (c .before .enum-told .given .1) in
-    let t = taken (a .limit) (now (a .file)) (i .marks) (i .n) (c .before .before .before .before .before .before .before .before .before .before .pre) (i .inv .0) e in
+    let t = took (c .before) in
     let v = marked (i .marks) in
+    let left = set (i .marks) (i .n) 1 in
     let ne = c .before .before .before .before .before .before .loop-test .taken in
     let q : _≡_ {A = ℕ} 0 (i .n) → ⊥ = (λ x. ne (sym x)) in (
       length-set (i .marks) (i .n) 1 ∙ i .inv .0,
       getD-set-other (i .marks) (i .n) 0 1 0 q ∙ i .inv .1,
       search needs,
-      ap₂ (λ (m : ℕ → Bool) (k : ℕ). chain (a .limit) (now (a .file)) (free (set (i .marks) (i .n) 1)) m k) (marked-set (i .marks) (i .n) (t .here)) (ap (λ (x : Record). x .next) (c .record-at .ensures))
-          ∙ sym (chain-next (a .limit) (now (a .file)) v (i .n) ne (free (set (i .marks) (i .n) 1)) e)
+      ap₂ (λ (m : ℕ → Bool) (k : ℕ). chain (a .limit) (now (a .file)) (free left) m k) (marked-set (i .marks) (i .n) (t .here))
+          (ap (λ (x : Record). x .next) (c .record-at .ensures))
+          ∙ sym (chain-next (a .limit) (now (a .file)) v (i .n) ne (free left) (t .passes))
           ∙ ap (λ (f : ℕ). chain (a .limit) (now (a .file)) f v (i .n)) (sym (free-set (i .marks) (i .n) (t .here) (t .clear)))
           ∙ i .inv .3,
     )

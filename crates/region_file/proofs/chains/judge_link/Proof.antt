@@ -21,7 +21,8 @@ record-count-requires : tie.Need-record-count-requires
 record-count-requires c κs = search needs
 
 returns : tie.Need-returns
-returns c = sym (first-refuses _ 13 _ (le-leb _ _ (subst (λ (k : ℕ). k ≤ c .before .before .before .args .n) (c .before .record-count .ensures) (c .if1 .taken))))
+returns c = sym (first-refuses _ 13 _
+    (le-leb _ _ (subst (λ (k : ℕ). k ≤ c .before .before .before .args .n) (c .before .record-count .ensures) (c .if1 .taken))))
 
 here : (c : tie.Else1) → leb (records (now (c .before .before .before .args .file))) (c .before .before .before .args .n) ≡ false
 here c = lt-leb _ _ (subst (λ (k : ℕ). c .before .before .before .args .n < k) (c .before .record-count .ensures) (c .if1 .left))
@@ -35,26 +36,33 @@ record-at-requires c κs = search needs
 within-requires : tie.Need-within-requires
 within-requires c κs = search needs
 
-region : (c : tie.After-within) → c .within .result ≡ within (record-at (now (c .before .before .before .before .before .before .before .args .file)) (c .before .before .before .before .before .before .before .args .n) .region)
+region : (c : tie.After-within) → c .within .result ≡ within
+    (record-at (now (c .before .before .before .before .before .before .before .args .file))
+    (c .before .before .before .before .before .before .before .args .n) .region)
 region c = c .within .ensures ∙ ap (λ (r : Record). within (r .region)) (c .before .before .record-at .ensures)
 
 returns-3 : tie.Need-returns-3
-returns-3 c = sym (first-passes _ 13 _ (here (c .before .before .before .before .before)) ∙ first-passes _ 14 _ (c .before .before .before .before .if2 .left) ∙ first-refuses _ 10 _ (sym (ap not (region (c .before))) ∙ c .if3 .taken))
+returns-3 c = sym (first-passes _ 13 _ (here (c .before .before .before .before .before)) ∙ first-passes _ 14 _
+    (c .before .before .before .before .if2 .left) ∙ first-refuses _ 10 _ (sym (ap not (region (c .before))) ∙ c .if3 .taken))
 
 -- the first three tests have passed
 before : (c : tie.Else3) → let a = c .before .before .before .before .before .before .before .before .args in
     link-outcome (a .limit) (now (a .file)) (a .seen) (a .n) ≡ first (too-many (a .limit) (record-at (now (a .file)) (a .n)) ∷ []) (accepted tt)
-before c = first-passes _ 13 _ (here (c .before .before .before .before .before)) ∙ first-passes _ 14 _ (c .before .before .before .before .if2 .left) ∙ first-passes _ 10 _ (sym (ap not (region (c .before))) ∙ c .if3 .left)
+before c = first-passes _ 13 _ (here (c .before .before .before .before .before)) ∙ first-passes _ 14 _
+    (c .before .before .before .before .if2 .left) ∙ first-passes _ 10 _ (sym (ap not (region (c .before))) ∙ c .if3 .left)
 
 returns-4 : tie.Need-returns-4
 returns-4 c =
     let a = c .before .before .before .before .before .before .before .before .before .before .args in
-    sym (before (c .before .before) ∙ first-refuses _ 15 _ (lt-ltb _ _ (subst (λ (r : Record). a .limit < r .count) (c .before .before .before .before .before .record-at .ensures) (c .if4 .taken))))
+    sym (before (c .before .before) ∙ first-refuses _ 15 _
+    (lt-ltb _ _ (subst (λ (r : Record). a .limit < r .count) (c .before .before .before .before .before .record-at .ensures) (c .if4 .taken))))
 
 returns-5 : tie.Need-returns-5
 returns-5 c =
     let a = c .before .before .before .before .before .before .before .before .before .before .args in
-    sym (before (c .before .before) ∙ first-passes _ 15 _ (le-ltb _ _ (subst (λ (r : Record). r .count ≤ a .limit) (c .before .before .before .before .before .record-at .ensures) (c .if4 .left))) ∙ first-none _)
+    sym (before (c .before .before) ∙ first-passes _ 15 _
+    (le-ltb _ _ (subst (λ (r : Record). r .count ≤ a .limit) (c .before .before .before .before .before .record-at .ensures) (c .if4 .left)))
+    ∙ first-none _)
 
 pub judge-link-spec : {M : Type 1} → statement M
 judge-link-spec =

@@ -34,7 +34,8 @@ made-same {n} {n′} {r} {r′} {x} {x′} {y} {y′} {k} {k′} p q s t u =
 returns : tie.Need-returns
 unfolding record-at
 returns c =
-    made-same (c .before .before .before .before .field .ensures) (c .before .before .before .region-at .ensures) (c .before .before .field2 .ensures) (c .before .field3 .ensures) (c .field4 .ensures)
+    made-same (c .before .before .before .before .field .ensures) (c .before .before .before .region-at .ensures)
+    (c .before .before .field2 .ensures) (c .before .field3 .ensures) (c .field4 .ensures)
 
 pub record-at-spec : {M : Type 1} → statement M
 record-at-spec =

@@ -41,7 +41,8 @@ unfolding record-at
 returns c =
     let l = c .before .before .before .signed in
     let t = c .before .before .signed2 in
-    made-same (toZ-ofZ w32 (l .result) (record { sfits = l .ok }) ∙ l .ensures ∙ ap (toZ w32) (c .before .before .before .before .before .field .ensures))
+    made-same (toZ-ofZ w32 (l .result) (record { sfits = l .ok }) ∙ l .ensures ∙ ap (toZ w32)
+    (c .before .before .before .before .before .field .ensures))
     (toZ-ofZ w32 (t .result) (record { sfits = t .ok }) ∙ t .ensures ∙ ap (toZ w32) (c .before .before .before .before .field2 .ensures))
     (c .before .field3 .ensures)
     (c .field4 .ensures)

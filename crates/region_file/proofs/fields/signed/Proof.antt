@@ -43,7 +43,8 @@ returns-2 : tie.Need-returns-2
 returns-2 c =
     let w = c .before .args .word in
     let h = c .if1 .left in
-    ap (λ (z : ℤ). toZ w32 (ofZ w32 z)) (value w h) ∙ toZ-ofZ w32 (negsuc (4294967295 - w)) (fit w h) ∙ simp (le-ltb w (2 ^ 31) h) (ap negsuc (omega arith))
+    ap (λ (z : ℤ). toZ w32 (ofZ w32 z)) (value w h) ∙ toZ-ofZ w32 (negsuc (4294967295 - w)) (fit w h) ∙ simp (le-ltb w (2 ^ 31) h)
+    (ap negsuc (omega arith))
 
 pub signed-spec : {M : Type 1} → statement M
 signed-spec =

@@ -39,7 +39,8 @@ whole c = whole-has _ (told c)
 size : (c : tie.Else1) → not (is-whole (length (now (c .before .before .before .args .file)))) ≡ false
 size c = ap not (told c)
 
-level-told : (c : tie.After-unknown-level) → unknown-level (level (now (c .before .before .before .before .before .args .file))) .holds ≡ c .unknown-level .result
+level-told : (c : tie.After-unknown-level) → unknown-level (level (now (c .before .before .before .before .before .args .file)))
+    .holds ≡ c .unknown-level .result
 level-told c = sym (c .unknown-level .ensures ∙ ap (λ (k : ℕ). unknown-level k .holds) (c .before .field .ensures))
 
 returns-2 : tie.Need-returns-2
@@ -51,7 +52,9 @@ zeros-requires c κs = let w = whole (c .before .before .before) in omega (arith
 
 returns-3 : tie.Need-returns-3
 unfolding judge-outcome
-returns-3 c = sym (first-passes _ 11 _ (size (c .before .before .before .before .before)) ∙ first-passes _ 2 _ (level-told (c .before .before .before) ∙ c .before .before .if2 .left) ∙ first-refuses _ 12 _ (sym (ap not (c .before .zeros .ensures)) ∙ c .if3 .taken))
+returns-3 c = sym (first-passes _ 11 _ (size (c .before .before .before .before .before)) ∙ first-passes _ 2 _
+    (level-told (c .before .before .before) ∙ c .before .before .if2 .left) ∙ first-refuses _ 12 _
+    (sym (ap not (c .before .zeros .ensures)) ∙ c .if3 .taken))
 
 judge-chain-requires : tie.Need-judge-chain-requires
 judge-chain-requires c κs = whole-few _ (told (c .before .before .before .before .before))
@@ -60,7 +63,9 @@ returns-4 : tie.Need-returns-4
 unfolding judge-outcome
 returns-4 c =
     c .judge-chain .ensures
-    ∙ sym (first-passes _ 11 _ (size (c .before .before .before .before .before .before)) ∙ first-passes _ 2 _ (level-told (c .before .before .before .before) ∙ c .before .before .before .if2 .left) ∙ first-passes _ 12 _ (sym (ap not (c .before .before .zeros .ensures)) ∙ c .before .if3 .left) ∙ first-none _)
+    ∙ sym (first-passes _ 11 _ (size (c .before .before .before .before .before .before)) ∙ first-passes _ 2 _
+    (level-told (c .before .before .before .before) ∙ c .before .before .before .if2 .left) ∙ first-passes _ 12 _
+    (sym (ap not (c .before .before .zeros .ensures)) ∙ c .before .if3 .left) ∙ first-none _)
 
 pub judge-to-spec : {M : Type 1} → statement M
 judge-to-spec =

@@ -11,10 +11,18 @@ returns : tie.Need-returns
 returns c = simp (read-back (λ (z : ℤ). ltZ z (negsuc 999999)) true (c .before .args .edge) (c .before .fits .edge) (c .if1 .taken))
 
 returns-2 : tie.Need-returns-2
-returns-2 c = let a = c .before .before in simp (read-back (λ (z : ℤ). ltZ z (negsuc 999999)) false (a .args .edge) (a .fits .edge) (c .before .if1 .left), read-back (λ (z : ℤ). ltZ (pos 1000000) z) true (a .args .edge) (a .fits .edge) (c .if2 .taken))
+returns-2 c = let a = c .before .before in simp (
+  read-back (λ (z : ℤ). ltZ z (negsuc 999999)) false (a .args .edge) (a .fits .edge) (c .before .if1 .left),
+  read-back
+      (λ (z : ℤ). ltZ (pos 1000000) z) true (a .args .edge) (a .fits .edge) (c .if2 .taken),
+)
 
 returns-3 : tie.Need-returns-3
-returns-3 c = let a = c .before .before in simp (read-back (λ (z : ℤ). ltZ z (negsuc 999999)) false (a .args .edge) (a .fits .edge) (c .before .if1 .left), read-back (λ (z : ℤ). ltZ (pos 1000000) z) false (a .args .edge) (a .fits .edge) (c .if2 .left))
+returns-3 c = let a = c .before .before in simp (
+  read-back (λ (z : ℤ). ltZ z (negsuc 999999)) false (a .args .edge) (a .fits .edge) (c .before .if1 .left),
+  read-back
+      (λ (z : ℤ). ltZ (pos 1000000) z) false (a .args .edge) (a .fits .edge) (c .if2 .left),
+)
 
 pub edge-within-spec : {M : Type 1} → statement M
 edge-within-spec = tie.close (tie.spec returns returns-2 returns-3)

@@ -44,7 +44,8 @@ loop-again c =
     let x = getD (now (a .text)) (i .i) 0 in (
       omega arith,
       length-set (i .out) (a .at + i .i) x ∙ i .inv .1,
-      ap (λ (l : List ℕ). set l (a .at + i .i) x) (i .inv .2) ∙ put-next (now (a .out)) (now (a .text)) (a .at) (i .i) (c .before .loop-test .taken) (c .before .before .before .pre),
+      ap (λ (l : List ℕ). set l (a .at + i .i) x) (i .inv .2) ∙ put-next (now (a .out)) (now (a .text)) (a .at) (i .i) (c .before .loop-test .taken)
+          (c .before .before .before .pre),
     )
 
 add-result : tie.Need-add-result Inv-loop μ-loop

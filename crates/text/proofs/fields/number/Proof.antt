@@ -21,7 +21,8 @@ has-room-requires c κs = search needs
 returns : tie.Need-returns
 returns c =
     let a = c .before .before .before .args in
-    wrote-nothing longest-number (now (a .out)) (a .at) (number-text (a .n) (a .last)) (sym (c .before .has-room .ensures) ∙ not-true _ (c .if1 .taken))
+    wrote-nothing longest-number (now (a .out)) (a .at) (number-text (a .n) (a .last))
+    (sym (c .before .has-room .ensures) ∙ not-true _ (c .if1 .taken))
 
 room : (c : tie.Else1) → leb (c .before .before .before .args .at + longest-number) (length (now (c .before .before .before .args .out))) ≡ true
 room c = sym (c .before .has-room .ensures) ∙ not-false _ (c .if1 .left)
@@ -41,7 +42,8 @@ returns-2 : tie.Need-returns-2
 returns-2 c =
     let a = c .before .before .before .before .before .before .before .args in
     let u = c .before .before .put-number in
-    put-wrote longest-number (now (a .out)) (a .at) (number-text (a .n) (a .last)) (u .result) (u .last .1 .1 .0) (room (c .before .before .before .before)) (u .ensures)
+    put-wrote longest-number (now (a .out)) (a .at) (number-text (a .n) (a .last)) (u .result) (u .last .1 .1 .0)
+    (room (c .before .before .before .before)) (u .ensures)
 
 pub number-spec : {M : Type 1} → statement M
 number-spec =

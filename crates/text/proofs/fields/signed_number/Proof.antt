@@ -25,7 +25,8 @@ has-room-requires c κs = search needs
 returns : tie.Need-returns
 returns c =
     let a = c .before .before .before .args in
-    wrote-nothing longest-signed (now (a .out)) (a .at) (signed-text (a .z) (a .last)) (sym (c .before .has-room .ensures) ∙ not-true _ (c .if1 .taken))
+    wrote-nothing longest-signed (now (a .out)) (a .at) (signed-text (a .z) (a .last))
+    (sym (c .before .has-room .ensures) ∙ not-true _ (c .if1 .taken))
 
 magnitude-requires : tie.Need-magnitude-requires
 magnitude-requires c κs = search needs
@@ -46,8 +47,19 @@ put-number-requires : tie.Need-put-number-requires
 put-number-requires c κs =
     let a = c .before .before .before .before .before .before .before .before .before .args in
     let u = c .before .before .before .put-sign in
-    let e : toZ w32 (ofZ w32 (a .z)) ≡ a .z = toZ-ofZ w32 (a .z) (c .before .before .before .before .before .before .before .before .before .fits .z) in
-    omega (arith, left (c .before .before .before .before .before .before), signed-longest (a .z) (a .last), signed-length (a .z) (a .last), u .ensures .0, u .kept .1 .0, ap (λ (z : ℤ). length (sign z)) e, ap (λ (k : ℕ). length (number-text k (a .last))) (c .before .before .before .before .before .magnitude .ensures ∙ ap natAbs e))
+    let e : toZ w32 (ofZ w32 (a .z)) ≡ a .z = toZ-ofZ w32 (a .z)
+    (c .before .before .before .before .before .before .before .before .before .fits .z) in
+    omega (
+      arith,
+      left (c .before .before .before .before .before .before),
+      signed-longest (a .z) (a .last),
+      signed-length (a .z) (a .last),
+      u .ensures .0,
+      u .kept .1 .0,
+      ap (λ (z : ℤ). length (sign z)) e,
+      ap (λ (k : ℕ). length (number-text k (a .last)))
+          (c .before .before .before .before .before .magnitude .ensures ∙ ap natAbs e),
+    )
 
 same-length : tie.Need-same-length
 same-length c = search needs
@@ -58,13 +70,21 @@ returns-2 c =
     let a = c .before .before .before .before .before .before .before .before .before .before .before .before .args in
     let u = c .before .before .before .before .before .before .put-sign in
     let v = c .before .before .put-number in
-    let e : toZ w32 (ofZ w32 (a .z)) ≡ a .z = toZ-ofZ w32 (a .z) (c .before .before .before .before .before .before .before .before .before .before .before .before .fits .z) in
+    let e : toZ w32 (ofZ w32 (a .z)) ≡ a .z = toZ-ofZ w32 (a .z)
+    (c .before .before .before .before .before .before .before .before .before .before .before .before .fits .z) in
     let m = c .before .before .before .before .before .before .before .before .magnitude .ensures ∙ ap natAbs e in
-    put-wrote longest-signed (now (a .out)) (a .at) (signed-text (a .z) (a .last)) (v .result) (v .last .1 .1 .0) (room (c .before .before .before .before .before .before .before .before .before))
+    put-wrote longest-signed (now (a .out)) (a .at) (signed-text (a .z) (a .last)) (v .result) (v .last .1 .1 .0)
+    (room (c .before .before .before .before .before .before .before .before .before))
     (put-then (now (a .out)) (a .at) (sign (a .z)) (number-text (natAbs (a .z)) (a .last)) (u .result) (u .last .1 .0) (v .result) (v .last .1 .1 .0)
     (subst (λ (z : ℤ). Put (now (a .out)) (a .at) (sign z) (u .result) (u .last .1 .0)) e (u .ensures))
     (subst (λ (k : ℕ). Put (u .last .1 .0) (u .result) (number-text k (a .last)) (v .result) (v .last .1 .1 .0)) m (v .ensures))
-    (omega (arith, left (c .before .before .before .before .before .before .before .before .before), signed-longest (a .z) (a .last), signed-length (a .z) (a .last))))
+    (omega (
+      arith,
+      left (c .before .before .before .before .before .before .before .before .before),
+      signed-longest (a .z) (a .last),
+      signed-length
+          (a .z) (a .last),
+    )))
 
 pub signed-number-spec : {M : Type 1} → statement M
 signed-number-spec =

@@ -1,15 +1,14 @@
 -- `numerals::put_digits` meets its contract, by the number of digits that it may still put.
 -- Assumes nothing.
-use mathlib.Core.Path.{_≡_, sym, ap, _∙_, subst}
+use mathlib.Core.Path.{sym, ap, subst}
 use mathlib.Core.List.{List, [], _∷_}
 use Prim.Native.Nat.{_+_, _-_, _/_, _%_}
 use native.Mathlib.Omega.{arith}
 use borrow.Author.Needs.{needs}
 use denote.Ref.{now}
 use lib.ListN.{length, length-append}
-use Rattle.text.specs.Put.{put}
 use Rattle.text.specs.Decimal.{decimal-in}
-use Rattle.text.proofs.Puts.{put-put}
+use Rattle.text.proofs.Puts.{Put, put-then}
 use Rattle.text.proofs.Numbers.{digits-last, digits-one, digits-more}
 use Prim.Native.Nat.{ℕ, _<_}
 use borrow.Fn.Kinds.{In}
@@ -54,7 +53,9 @@ put-digits-put-byte-requires : (t : ℕ) → put-digits-lts.Need-put-byte-requir
   put-digits-below t,
   put-digits.Post,
 ) (put-digits-at t) put-digits.Post
-put-digits-put-byte-requires t c κs = omega (arith, c .before .before .before .pre .1, ap length (digits-last (c .before .before .before .args .f) (c .before .before .before .args .n) (c .before .if1 .taken)))
+put-digits-put-byte-requires t c κs =
+    let a = c .before .before .before .args in
+    omega (arith, c .before .before .before .pre .1, ap length (digits-last (a .f) (a .n) (c .before .if1 .taken)))
 
 put-digits-same-length : (t : ℕ) → put-digits-lts.Need-same-length (
   put-byte-reads.Asked,
@@ -70,7 +71,11 @@ put-digits-returns : (t : ℕ) → put-digits-lts.Need-returns (
   put-digits-below t,
   put-digits.Post,
 ) (put-digits-at t) put-digits.Post
-put-digits-returns t c = subst (λ (s : List ℕ). (c .before .before .put-byte .result ≡ c .before .before .before .before .before .before .args .at + length s) × (c .before .before .put-byte .last .1 .0 ≡ put (now (c .before .before .before .before .before .before .args .out)) (c .before .before .before .before .before .before .args .at) s)) (sym (digits-last (c .before .before .before .before .before .before .args .f) (c .before .before .before .before .before .before .args .n) (c .before .before .before .before .if1 .taken))) (c .before .before .put-byte .ensures)
+put-digits-returns t c =
+    let a = c .before .before .before .before .before .before .args in
+    let u = c .before .before .put-byte in
+    subst (λ (s : List ℕ). Put (now (a .out)) (a .at) s (u .result) (u .last .1 .0))
+    (sym (digits-last (a .f) (a .n) (c .before .before .before .before .if1 .taken))) (u .ensures)
 
 put-digits-cast-put-byte-2 : (t : ℕ) → put-digits-lts.Need-cast-put-byte-2 (
   put-byte-reads.Asked,
@@ -94,7 +99,14 @@ put-digits-put-byte-requires-2 : (t : ℕ) → put-digits-lts.Need-put-byte-requ
   put-digits-below t,
   put-digits.Post,
 ) (put-digits-at t) put-digits.Post
-put-digits-put-byte-requires-2 t c κs = omega (arith, c .before .before .before .before .pre .1, ap length (digits-one (c .before .before .before .before .args .f) (c .before .before .before .before .args .n) (c .before .before .if1 .left) (c .before .if2 .taken)))
+put-digits-put-byte-requires-2 t c κs =
+    let a = c .before .before .before .before .args in
+    omega (
+      arith,
+      c .before .before .before .before .pre .1,
+      ap length
+          (digits-one (a .f) (a .n) (c .before .before .if1 .left) (c .before .if2 .taken)),
+    )
 
 put-digits-same-length-2 : (t : ℕ) → put-digits-lts.Need-same-length-2 (
   put-byte-reads.Asked,
@@ -110,7 +122,12 @@ put-digits-returns-2 : (t : ℕ) → put-digits-lts.Need-returns-2 (
   put-digits-below t,
   put-digits.Post,
 ) (put-digits-at t) put-digits.Post
-put-digits-returns-2 t c = subst (λ (s : List ℕ). (c .before .before .put-byte2 .result ≡ c .before .before .before .before .before .before .before .args .at + length s) × (c .before .before .put-byte2 .last .1 .0 ≡ put (now (c .before .before .before .before .before .before .before .args .out)) (c .before .before .before .before .before .before .before .args .at) s)) (sym (digits-one (c .before .before .before .before .before .before .before .args .f) (c .before .before .before .before .before .before .before .args .n) (c .before .before .before .before .before .if1 .left) (c .before .before .before .before .if2 .taken))) (c .before .before .put-byte2 .ensures)
+put-digits-returns-2 t c =
+    let a = c .before .before .before .before .before .before .before .args in
+    let u = c .before .before .put-byte2 in
+    subst (λ (s : List ℕ). Put (now (a .out)) (a .at) s (u .result) (u .last .1 .0))
+    (sym (digits-one (a .f) (a .n) (c .before .before .before .before .before .if1 .left) (c .before .before .before .before .if2 .taken)))
+    (u .ensures)
 
 put-digits-sub-put-digits : (t : ℕ) → put-digits-lts.Need-sub-put-digits (
   put-byte-reads.Asked,
@@ -126,10 +143,14 @@ put-digits-put-digits-requires : (t : ℕ) → put-digits-lts.Need-put-digits-re
   put-digits-below t,
   put-digits.Post,
 ) (put-digits-at t) put-digits.Post
-put-digits-put-digits-requires t c κs = (
-  omega (arith, c .before .before .before .before .pre .0),
-  omega (arith, c .before .before .before .before .pre .1, ap length (digits-more (c .before .before .before .before .args .f) (c .before .before .before .before .args .n) (c .before .before .if1 .left) (c .before .if2 .left)), length-append (decimal-in (c .before .before .before .before .args .f - 1) (c .before .before .before .before .args .n / 10)) ((48 + c .before .before .before .before .args .n % 10) ∷ [])),
-)
+put-digits-put-digits-requires t c κs =
+    let a = c .before .before .before .before .args in
+    let one = decimal-in (a .f - 1) (a .n / 10) in
+    let e = digits-more (a .f) (a .n) (c .before .before .if1 .left) (c .before .if2 .left) in (
+      omega (arith, c .before .before .before .before .pre .0),
+      omega
+          (arith, c .before .before .before .before .pre .1, ap length e, length-append one ((48 + a .n % 10) ∷ [])),
+    )
 
 put-digits-cast-put-byte-3 : (t : ℕ) → put-digits-lts.Need-cast-put-byte-3 (
   put-byte-reads.Asked,
@@ -153,7 +174,20 @@ put-digits-put-byte-requires-3 : (t : ℕ) → put-digits-lts.Need-put-byte-requ
   put-digits-below t,
   put-digits.Post,
 ) (put-digits-at t) put-digits.Post
-put-digits-put-byte-requires-3 t c κs = omega (arith, c .before .before .before .before .before .before .before .before .pre .1, c .before .before .before .put-digits .ensures .0, c .before .before .before .put-digits .kept .1 .1 .0, ap length (digits-more (c .before .before .before .before .before .before .before .before .args .f) (c .before .before .before .before .before .before .before .before .args .n) (c .before .before .before .before .before .before .if1 .left) (c .before .before .before .before .before .if2 .left)), length-append (decimal-in (c .before .before .before .before .before .before .before .before .args .f - 1) (c .before .before .before .before .before .before .before .before .args .n / 10)) ((48 + c .before .before .before .before .before .before .before .before .args .n % 10) ∷ []))
+put-digits-put-byte-requires-3 t c κs =
+    let a = c .before .before .before .before .before .before .before .before .args in
+    let u = c .before .before .before .put-digits in
+    let one = decimal-in (a .f - 1) (a .n / 10) in
+    let e = digits-more (a .f) (a .n) (c .before .before .before .before .before .before .if1 .left)
+    (c .before .before .before .before .before .if2 .left) in
+    omega (
+      arith,
+      c .before .before .before .before .before .before .before .before .pre .1,
+      u .ensures .0,
+      u .kept .1 .1 .0,
+      ap length e,
+      length-append one ((48 + a .n % 10) ∷ []),
+    )
 
 put-digits-same-length-3 : (t : ℕ) → put-digits-lts.Need-same-length-3 (
   put-byte-reads.Asked,
@@ -171,17 +205,16 @@ put-digits-returns-3 : (t : ℕ) → put-digits-lts.Need-returns-3 (
 ) (put-digits-at t) put-digits.Post
 put-digits-returns-3 t c =
     let a = c .before .before .before .before .before .before .before .before .before .before .before .args in
+    let u = c .before .before .before .before .before .before .put-digits in
+    let v = c .before .before .put-byte3 in
     let one = decimal-in (a .f - 1) (a .n / 10) in
-    let b = (48 + a .n % 10) ∷ [] in
-    let e = digits-more (c .before .before .before .before .before .before .before .before .before .before .before .args .f) (c .before .before .before .before .before .before .before .before .before .before .before .args .n) (c .before .before .before .before .before .before .before .before .before .if1 .left) (c .before .before .before .before .before .before .before .before .if2 .left) in
-    let n = c .before .before .before .before .before .before .put-digits .ensures in
-    let m = c .before .before .put-byte3 .ensures in
-    let l = length-append one b in
-    subst (λ (s : List ℕ). (c .before .before .put-byte3 .result ≡ a .at + length s) × (c .before .before .put-byte3 .last .1 .0 ≡ put (now (a .out)) (a .at) s)) (sym e) (
-      omega (arith, n .0, m .0, l),
-      m .1 ∙ ap (λ (d : List ℕ). put d (c .before .before .before .before .before .before .put-digits .result) b) (n .1) ∙ ap (λ (k : ℕ). put (put (now (a .out)) (a .at) one) k b) (n .0)
-          ∙ put-put (now (a .out)) (a .at) one b (omega (arith, c .before .before .before .before .before .before .before .before .before .before .before .pre .1, ap length e, l)),
-    )
+    let last = (48 + a .n % 10) ∷ [] in
+    let e = digits-more (a .f) (a .n) (c .before .before .before .before .before .before .before .before .before .if1 .left)
+    (c .before .before .before .before .before .before .before .before .if2 .left) in
+    let l = length-append one last in
+    subst (λ (s : List ℕ). Put (now (a .out)) (a .at) s (v .result) (v .last .1 .0)) (sym e)
+    (put-then (now (a .out)) (a .at) one last (u .result) (u .last .1 .1 .0) (v .result) (v .last .1 .0) (u .ensures) (v .ensures)
+    (omega (arith, c .before .before .before .before .before .before .before .before .before .before .before .pre .1, ap length e, l)))
 
 pub +put-digits-spec : {M : Type 1} → statement M
 +put-digits-spec = close μ-put-digits λ t. put-digits-lts.spec (

@@ -25,8 +25,11 @@ sub-result c = let n = under c in subst (SFits w32) (sym (n .less)) (n .fits)
 cast-result : tie.Need-cast-result
 cast-result c =
     let z = c .before .args .z in
-    let n = under c in
-    (subst (λ (y : ℤ). T (nonNeg y)) (sym (lowered z n)) tt, subst (λ (y : ℤ). Fits w32 (natAbs y)) (sym (lowered z n)) (record { fits = omega (arith, small c) }))
+    let n = under c in (
+      subst (λ (y : ℤ). T (nonNeg y)) (sym (lowered z n)) tt,
+      subst (λ (y : ℤ). Fits w32 (natAbs y)) (sym (lowered z n))
+          (record { fits = omega (arith, small c) }),
+    )
 
 add-result : tie.Need-add-result
 add-result c = subst (λ (y : ℤ). Fits w32 (natAbs y + 1)) (sym (lowered (c .before .args .z) (under c))) (record { fits = omega (arith, small c) })

@@ -32,7 +32,8 @@ returns-2 : tie.Need-returns-2
 returns-2 c =
     let a = c .before .before .args in
     let p = plain (a .z) (c .before .before .fits .z) (c .if1 .left) in
-    subst (λ (s : List ℕ). Put (now (a .out)) (a .at) s (a .at) (now (a .out))) (sym (p .bare)) (omega arith, sym (put-nothing (now (a .out)) (a .at)))
+    subst (λ (s : List ℕ). Put (now (a .out)) (a .at) s (a .at) (now (a .out))) (sym (p .bare))
+    (omega arith, sym (put-nothing (now (a .out)) (a .at)))
 
 pub put-sign-spec : {M : Type 1} → statement M
 put-sign-spec = tie.close (tie.spec put-byte-requires same-length returns returns-2)

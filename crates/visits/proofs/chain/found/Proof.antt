@@ -40,7 +40,8 @@ returns c =
     let file = now (c .before .before .before .before .before .before .args .file) in
     let i = c .before .before .before .before .loop in
     let e = from-stop file (i .left) (i .n) (sym (c .before .before .listable .ensures) ∙ not-true _ (c .before .if1 .taken)) in
-    none file (c .before .before .before .before .before .before .args .start) (c .before .before .before .before .before .before .args .links) (c .leading-to .result) (c .leading-to .ensures) (sym (i .inv .2) ∙ e)
+    none file (c .before .before .before .before .before .before .args .start) (c .before .before .before .before .before .before .args .links)
+    (c .leading-to .result) (c .leading-to .ensures) (sym (i .inv .2) ∙ e)
 
 sub-left : tie.Need-sub-left Inv-loop μ-loop
 sub-left c = search needs
@@ -69,7 +70,8 @@ loop-again c =
       search needs,
       search needs,
       ap (λ (r : Record). from file (i .left - 1) (r .next)) e
-          ∙ sym (from-empty file (i .left) (i .n) (c .before .before .before .before .before .loop-test .taken) h (subst (λ (r : Record). r .count ≤ 0) e (c .if2 .left)))
+          ∙ sym (from-empty file (i .left) (i .n) (c .before .before .before .before .before .loop-test .taken) h
+          (subst (λ (r : Record). r .count ≤ 0) e (c .if2 .left)))
           ∙ i .inv .2,
     )
 
@@ -80,7 +82,8 @@ returns-3 : tie.Need-returns-3 Inv-loop μ-loop
 returns-3 c =
     let file = now (c .before .before .before .before .args .file) in
     let i = c .before .before .loop in
-    none file (c .before .before .before .before .args .start) (c .before .before .before .before .args .links) (c .leading-to2 .result) (c .leading-to2 .ensures) (sym (i .inv .2) ∙ from-over file (i .left) (i .n) (c .before .loop-test .left))
+    none file (c .before .before .before .before .args .start) (c .before .before .before .before .args .links) (c .leading-to2 .result)
+    (c .leading-to2 .ensures) (sym (i .inv .2) ∙ from-over file (i .left) (i .n) (c .before .loop-test .left))
 
 pub found-spec : {M : Type 1} → statement M
 found-spec =

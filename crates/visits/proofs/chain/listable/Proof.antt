@@ -17,7 +17,9 @@ record-count-requires : tie.Need-record-count-requires
 record-count-requires c κs = search needs
 
 returns-2 : tie.Need-returns-2
-returns-2 c = let a = c .before .before .before .before .args in sym (listable-past (now (a .file)) (a .n) (c .before .before .if1 .left) (subst (λ (k : ℕ). k ≤ a .n) (c .before .record-count .ensures) (c .if2 .taken)))
+returns-2 c = let a = c .before .before .before .before .args in sym
+    (listable-past (now (a .file)) (a .n) (c .before .before .if1 .left)
+    (subst (λ (k : ℕ). k ≤ a .n) (c .before .record-count .ensures) (c .if2 .taken)))
 
 planned-requires : tie.Need-planned-requires
 planned-requires c κs = search needs
@@ -30,7 +32,8 @@ returns-3 c =
     let a = c .before .before .before .before .before .before .before .args in
     c .within .ensures
     ∙ ap (λ (r : Record). within (r .region)) (c .before .before .planned .ensures)
-    ∙ sym (listable-region (now (a .file)) (a .n) (c .before .before .before .before .before .if1 .left) (subst (λ (k : ℕ). a .n < k) (c .before .before .before .before .record-count .ensures) (c .before .before .before .if2 .left)))
+    ∙ sym (listable-region (now (a .file)) (a .n) (c .before .before .before .before .before .if1 .left)
+    (subst (λ (k : ℕ). a .n < k) (c .before .before .before .before .record-count .ensures) (c .before .before .before .if2 .left)))
 
 pub listable-spec : {M : Type 1} → statement M
 listable-spec =

@@ -35,17 +35,23 @@ returns-2 : tie.Need-returns-2
 unfolding here
 returns-2 c =
     let p = c .before .before .before .before .before .before .args .place in
-    sym (simp (lt-leb _ _ (c .before .before .before .if1 .left), refused-outside (p .planned) (p .index) (sym (c .before .before .position-of .ensures) ∙ ap of-placed (c .enum-told .given .1))))
+    sym (simp (
+      lt-leb _ _ (c .before .before .before .if1 .left),
+      refused-outside (p .planned) (p .index)
+          (sym (c .before .before .position-of .ensures) ∙ ap of-placed (c .enum-told .given .1)),
+    ))
 
 returns-3 : tie.Need-returns-3
 unfolding here
 returns-3 c =
     let p = c .before .before .before .before .before .before .before .before .args .place in
     let at = c .before .before .placed .given .0 .0 in
-    let e = accepted-inside (p .planned) (p .index) (sym (c .before .before .before .before .position-of .ensures) ∙ ap of-placed (c .before .before .placed .given .1)) in
+    let e = accepted-inside (p .planned) (p .index)
+    (sym (c .before .before .before .before .position-of .ensures) ∙ ap of-placed (c .before .before .placed .given .1)) in
     let fx : SFits w32 (at .x) = search needs in
     let fy : SFits w32 (at .y) = search needs in
-    ap₂ (λ (x y : ℤ). told p (record { number = p .number; index = p .index; x = x; y = y })) (toZ-ofZ w32 (at .x) fx ∙ ap (λ (q : Position). q .x) (sym (e .1))) (toZ-ofZ w32 (at .y) fy ∙ ap (λ (q : Position). q .y) (sym (e .1)))
+    ap₂ (λ (x y : ℤ). told p (record { number = p .number; index = p .index; x = x; y = y }))
+    (toZ-ofZ w32 (at .x) fx ∙ ap (λ (q : Position). q .x) (sym (e .1))) (toZ-ofZ w32 (at .y) fy ∙ ap (λ (q : Position). q .y) (sym (e .1)))
     ∙ sym (here-visit p (c .before .before .before .before .before .if1 .left) (e .0))
 
 pub here-spec : {M : Type 1} → statement M

@@ -42,10 +42,12 @@ unfolding to-come listing
 returns-2 c =
     let file = now (c .before .before .before .before .before .before .before .args .file) in
     let why = c .before .before .before .opened2 .given .0 .0 in
-    ap₂ (λ (n : ℕ) (vs : List Visit). refused-text n ++ lines vs) (c .before .number .ensures) (ap (visits-to-come file) (c .ended .ensures) ∙ ended-comes file)
+    ap₂ (λ (n : ℕ) (vs : List Visit). refused-text n ++ lines vs) (c .before .number .ensures)
+    (ap (visits-to-come file) (c .ended .ensures) ∙ ended-comes file)
     ∙ ap (λ (t : List ℕ). refused-text (number why) ++ t) lines-none
     ∙ append-nil (refused-text (number why))
-    ∙ ap report (sym (ap (of-opened file) (c .before .before .before .opened2 .given .1)) ∙ c .before .before .before .before .before .«open» .ensures)
+    ∙ ap report (sym (ap (of-opened file) (c .before .before .before .opened2 .given .1))
+    ∙ c .before .before .before .before .before .«open» .ensures)
 
 pub open-spec : {M : Type 1} → statement M
 open-spec =

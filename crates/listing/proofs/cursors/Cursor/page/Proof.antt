@@ -8,11 +8,10 @@ use native.Mathlib.Omega.{arith}
 use denote.Ref.{now}
 use lib.ListN.{length, take, drop}
 use lib.Seq.{length-take-le, drop-drop}
-use Rattle.text.specs.Pieces.{Piece}
 use Rattle.text.proofs.Puts.{Put}
 use Rattle.visits.specs.Place.{to-come as visits-to-come}
-use Rattle.listing.specs.Listing.{lines, longest-line}
-use Rattle.listing.specs.Cursor.{lead-text, to-come}
+use Rattle.listing.specs.Listing.{lines}
+use Rattle.listing.specs.Cursor.{lead-text, to-come, Paged}
 use Rattle.listing.proofs.Putting.{lead-longest, lines-none, joined, beyond}
 use borrow.Author.Needs.{needs}
 use Rattle.listing.proofs.cursors.Cursor.page.Statement.{statement}
@@ -28,8 +27,8 @@ returns : tie.Need-returns
 returns c =
     let a = c .before .before .before .args in
     let d = now (a .out) in
-    let t = to-come (now (a .file)) in
-    let none : Piece t longest-line (a .self) (a .self) [] (length d) = record { joins = refl; stops = λ h. absurd (omega (arith, h, c .if1 .taken)) } in
+    let none : Paged (now (a .file)) (a .self) (a .self) []
+    (length d) = record { joins = refl; stops = λ h. absurd (omega (arith, h, c .if1 .taken)) } in
     ((zero-le, refl), (none, refl))
 
 put-lead-requires : tie.Need-put-lead-requires
@@ -38,7 +37,14 @@ put-lead-requires c κs = search needs
 put-lines-requires : tie.Need-put-lines-requires
 put-lines-requires c κs =
     let u = c .before .before .before .put-lead in
-    omega (arith, u .ensures .0, u .kept .1 .0, lead-longest (c .before .before .before .before .before .before .before .before .before .args .self .lead), c .before .before .before .before .before .before .if1 .left)
+    omega (
+      arith,
+      u .ensures .0,
+      u .kept .1 .0,
+      lead-longest
+          (c .before .before .before .before .before .before .before .before .before .args .self .lead),
+      c .before .before .before .before .before .before .if1 .left,
+    )
 
 same-length : tie.Need-same-length
 same-length c = search needs

@@ -47,7 +47,8 @@ returns-2 c =
     sym
     (first-passes _ 10 [] (sym (ap not (c .before .before .before .before .before .within .ensures)) ∙ c .before .before .before .before .if1 .left)
     ∙ first-none _
-    ∙ sym (ap₂ (λ (x y : ℤ). accepted (of x y)) (position-told (r .left) (r .width) (a .x) (search needs) (record { sfits = p .ok }) (p .ensures)) (position-told (r .top) (r .height) (a .y) (search needs) (record { sfits = q .ok }) (q .ensures))))
+    ∙ sym (ap₂ (λ (x y : ℤ). accepted (of x y)) (position-told (r .left) (r .width) (a .x) (search needs) (record { sfits = p .ok }) (p .ensures))
+    (position-told (r .top) (r .height) (a .y) (search needs) (record { sfits = q .ok }) (q .ensures))))
 
 pub position-spec : {M : Type 1} → statement M
 position-spec =

@@ -25,7 +25,12 @@ returns-2 : tie.Need-returns-2
 unfolding within
 returns-2 c =
     let a = c .before .before .before .before .before .before .args .self in
-    simp (edge-told true (a .left) (search needs) (c .before .before .before .before .edge-within .ensures) (not-false _ (c .before .before .before .if1 .left)), edge-told false (a .top) (search needs) (c .before .edge-within2 .ensures) (not-true _ (c .if2 .taken)))
+    simp (
+      edge-told true (a .left) (search needs) (c .before .before .before .before .edge-within .ensures)
+          (not-false _ (c .before .before .before .if1 .left)),
+      edge-told false (a .top) (search needs) (c .before .edge-within2 .ensures)
+          (not-true _ (c .if2 .taken)),
+    )
 
 extent-within-requires : tie.Need-extent-within-requires
 extent-within-requires c κs = search needs
@@ -34,7 +39,14 @@ returns-3 : tie.Need-returns-3
 unfolding within
 returns-3 c =
     let a = c .before .before .before .before .before .before .before .before .args .self in
-    simp (edge-told true (a .left) (search needs) (c .before .before .before .before .before .before .edge-within .ensures) (not-false _ (c .before .before .before .before .before .if1 .left)), edge-told true (a .top) (search needs) (c .before .before .before .edge-within2 .ensures) (not-false _ (c .before .before .if2 .left)), sym (c .before .extent-within .ensures) ∙ not-true _ (c .if3 .taken))
+    simp (
+      edge-told true (a .left) (search needs) (c .before .before .before .before .before .before .edge-within .ensures)
+          (not-false _ (c .before .before .before .before .before .if1 .left)),
+      edge-told true (a .top) (search needs)
+          (c .before .before .before .edge-within2 .ensures) (not-false _ (c .before .before .if2 .left)),
+      sym (c .before .extent-within .ensures)
+          ∙ not-true _ (c .if3 .taken),
+    )
 
 extent-within-requires-2 : tie.Need-extent-within-requires-2
 extent-within-requires-2 c κs = search needs
@@ -43,7 +55,14 @@ returns-4 : tie.Need-returns-4
 unfolding within
 returns-4 c =
     let a = c .before .before .before .before .before .before .before .before .before .args .self in
-    simp (edge-told true (a .left) (search needs) (c .before .before .before .before .before .before .before .edge-within .ensures) (not-false _ (c .before .before .before .before .before .before .if1 .left)), edge-told true (a .top) (search needs) (c .before .before .before .before .edge-within2 .ensures) (not-false _ (c .before .before .before .if2 .left)), sym (c .before .before .extent-within .ensures) ∙ not-false _ (c .before .if3 .left)) (c .extent-within2 .ensures)
+    simp (
+      edge-told true (a .left) (search needs) (c .before .before .before .before .before .before .before .edge-within .ensures)
+          (not-false _ (c .before .before .before .before .before .before .if1 .left)),
+      edge-told true (a .top) (search needs)
+          (c .before .before .before .before .edge-within2 .ensures) (not-false _ (c .before .before .before .if2 .left)),
+      sym
+          (c .before .before .extent-within .ensures) ∙ not-false _ (c .before .if3 .left),
+    ) (c .extent-within2 .ensures)
 
 pub within-spec : {M : Type 1} → statement M
 within-spec =

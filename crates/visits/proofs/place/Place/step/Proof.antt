@@ -19,7 +19,8 @@ returns : tie.Need-returns
 returns c =
     let a = c .before .before .before .before .before .before .args in
     let file = now (a .file) in
-    subst (λ (s : Stepped). Gives file (a .self) (s .step) (s .place)) (sym (c .here .ensures)) (gives-here file (a .self) (inl (c .before .if1 .taken)))
+    subst (λ (s : Stepped). Gives file (a .self) (s .step) (s .place)) (sym (c .here .ensures))
+    (gives-here file (a .self) (inl (c .before .if1 .taken)))
 
 within-requires : tie.Need-within-requires
 within-requires c κs = search needs
@@ -41,9 +42,11 @@ returns-3 c =
     let a = c .before .before .before .before .before .before .before .before .before .before .args in
     let file = now (a .file) in
     let found = c .before .found in
-    let next = to-come-next file (a .self) (sym (c .before .before .before .within .ensures) ∙ not-false _ (c .before .before .if2 .left)) (c .before .before .before .before .before .if1 .left) in
+    let next = to-come-next file (a .self) (sym (c .before .before .before .within .ensures) ∙ not-false _ (c .before .before .if2 .left))
+    (c .before .before .before .before .before .if1 .left) in
     subst (λ (s : Stepped). Gives file (a .self) (s .step) (s .place)) (sym (c .here2 .ensures))
-    (gives-same file (a .self) (found .result) (here (found .result) .place) (here (found .result) .step) (next ∙ sym (found .ensures .same)) (gives-here file (found .result) (found .ensures .ready)))
+    (gives-same file (a .self) (found .result) (here (found .result) .place) (here (found .result) .step) (next ∙ sym (found .ensures .same))
+    (gives-here file (found .result) (found .ensures .ready)))
 
 pub step-spec : {M : Type 1} → statement M
 step-spec =

@@ -1,0 +1,11 @@
+-- `fields::record_count` meets its contract.
+-- Assumes nothing.
+use mathlib.Core.Path.{refl}
+use Rattle.region_file.proofs.fields.record_count.Statement.{statement}
+use Rattle.region_file.proofs.fields.record_count.Tie as tie
+
+returns : tie.Need-returns
+returns c = refl
+
+pub record-count-spec : {M : Type 1} → statement M
+record-count-spec = tie.close (tie.spec returns)
