@@ -42,7 +42,10 @@ returns c =
     let fx : SFits w32 (v .x) = search needs in
     let fy : SFits w32 (v .y) = search needs in
     line-put v (now (a .out)) (a .at) (n .result) (n .last .1 .1 .0) (i .result) (i .last .1 .1 .0) (x .result) (x .last .1 .1 .0)
-    (y .result) (y .last .1 .1 .0) (c .before .before .before .before .before .before .before .before .before .before .before .before .before .before .before .before .before .before .before .pre) (n .ensures) (i .ensures)
+    (y .result) (y .last .1 .1 .0)
+    (c .before .before .before .before .before .before .before .before .before .before .before .before .before .before .before .before .before
+    .before .before .pre)
+    (n .ensures) (i .ensures)
     (subst (λ (z : ℤ). Wrote longest-signed (i .last .1 .1 .0) (i .result) (signed-text z 32) (x .result) (x .last .1 .1 .0))
     (toZ-ofZ w32 (v .x) fx) (x .ensures))
     (subst (λ (z : ℤ). Wrote longest-signed (x .last .1 .1 .0) (x .result) (signed-text z 10) (y .result) (y .last .1 .1 .0))
