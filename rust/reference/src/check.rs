@@ -75,9 +75,12 @@ fn matrix_row(columns: &[u32; 32], r: u32, m: u32) -> u32 {
 pub(crate) fn reduce(equations: &mut [Equation]) -> Option<u32> {
     for c in 0..equations.len() {
         let has_bit = |equation: &Equation| (equation.columns >> c) & 1 == 1;
-        let Some(below) = equations[c..].iter().position(has_bit) else {
-            let earlier = (0..c).filter(|&k| has_bit(&equations[k]));
-            return Some(earlier.fold(1 << c, |j, k| j | 1 << k));
+        let below = match equations[c..].iter().position(has_bit) {
+            Some(below) => below,
+            None => {
+                let earlier = (0..c).filter(|&k| has_bit(&equations[k]));
+                return Some(earlier.fold(1 << c, |j, k| j | 1 << k));
+            }
         };
         equations.swap(c, c + below);
         let pivot = equations[c];
@@ -106,11 +109,12 @@ mod tests {
     /// The definition: expansion along the first row. `open` holds the
     /// columns not yet used; signs do not matter modulo 2.
     fn odd_by_expansion(rows: &[Equation], open: u32) -> bool {
-        let Some((first, rest)) = rows.split_first() else {
-            return true;
-        };
-        let used = (0..32).filter(|c| (first.columns & open) >> c & 1 == 1);
-        used.fold(false, |odd, c| odd ^ odd_by_expansion(rest, open & !(1 << c)))
+        if let Some((first, rest)) = rows.split_first() {
+            let used = (0..32).filter(|c| (first.columns & open) >> c & 1 == 1);
+            used.fold(false, |odd, c| odd ^ odd_by_expansion(rest, open & !(1 << c)))
+        } else {
+            true
+        }
     }
 
     /// The definition of j, by looking at every index.
@@ -225,7 +229,7 @@ mod tests {
             for a in 0..=32 {
                 if let Some(j) = smallest_shared_index(&pair, 32, a) {
                     assert!(lies_in(pair.point(j, NO_SHIFT), 32, a, 0, 0));
-                    assert!(columns_are_independent(&pair, a, j.ilog2()));
+                    assert!(columns_are_independent(&pair, a, 31 - j.leading_zeros()));
                     shared += 1;
                 } else {
                     assert!(columns_are_independent(&pair, a, 32));

@@ -41,7 +41,7 @@ pub fn file_of(records: &[Fields]) -> Vec<u8> {
 /// Refusals 11, 2 and 12, in this order, and then those of the links; otherwise
 /// the records of the chain in its order.
 pub fn chain(file: &[u8]) -> Result<Vec<Record>, Refusal> {
-    if file.is_empty() || file.len() > LARGEST_FILE || !file.len().is_multiple_of(RECORD_BYTES) {
+    if file.is_empty() || file.len() > LARGEST_FILE || file.len() % RECORD_BYTES != 0 {
         return Err(Refusal::FileLength);
     }
     let [first, level, ..] = fields(file);

@@ -23,13 +23,14 @@ pub fn double(word: u32) -> f64 {
 }
 
 /// The largest single not above the quotient. The cast rounds to nearest, so
-/// its answer is that single or the next one up. Document 003 puts the bits
-/// together instead; that way is kept for the tests.
+/// its answer is that single or the next one up, whose bits are one more: no
+/// single here is negative. Document 003 puts the bits together instead; that
+/// way is kept for the tests.
 pub fn single(word: u32) -> f32 {
     let quotient = double(word);
     let nearest = quotient as f32;
     if f64::from(nearest) > quotient {
-        nearest.next_down()
+        f32::from_bits(nearest.to_bits() - 1)
     } else {
         nearest
     }

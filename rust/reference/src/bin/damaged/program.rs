@@ -23,7 +23,7 @@ pub struct Answer {
 
 impl Answer {
     pub fn is(&self, expected: &[u8]) -> bool {
-        self.output == expected && self.status.is_some_and(|status| status.success())
+        self.output == expected && self.status.map_or(false, |status| status.success())
     }
 }
 

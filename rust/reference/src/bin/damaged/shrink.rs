@@ -61,7 +61,7 @@ fn cut(file: &mut Vec<u8>, fails: &impl Fn(&[u8]) -> bool) {
 /// Sets fields to zero, many at once first. What is left of the last field in
 /// a file that is not whole counts as a field.
 fn zero(file: &mut [u8], fails: &impl Fn(&[u8]) -> bool) {
-    let mut fields = file.len().div_ceil(FIELD_BYTES);
+    let mut fields = (file.len() + FIELD_BYTES - 1) / FIELD_BYTES;
     while fields > 0 {
         let bytes = fields * FIELD_BYTES;
         for start in (0..file.len()).step_by(bytes) {

@@ -93,7 +93,8 @@ fn steps_section(output: &mut impl Write) -> io::Result<()> {
     writeln!(output, "steps")?;
     let pair = Pair::standard();
     let opened = Walk::open(4_294_967_294, 2);
-    let mut walk = opened.map_err(|refusal| io::Error::other(refusal.to_string()))?;
+    let mut walk =
+        opened.map_err(|refusal| io::Error::new(io::ErrorKind::Other, refusal.to_string()))?;
     for _ in 0..3 {
         let (step, after) = walk.step(&pair, SHIFT);
         match step {
