@@ -11,11 +11,12 @@ use lib.Dec.{eqb, leb, ltb}
 use lib.ListN.{length}
 use borrow.Author.Tests.{eq-eqb, ne-eqb, eqb-true, eqb-false, leb-false, ltb-false, not-false}
 use Rattle.refusal.specs.Outcome.{Outcome, accepted, refused, first}
-use Rattle.refusal.proofs.First.{first-none, first-accepted, refused-before, passed-before}
+use Rattle.refusal.proofs.First.{first-none, first-accepted, accepted-refused, refused-before, passed-before}
 use Rattle.plan.specs.Pair.{unknown-level}
 use Rattle.stage.specs.Region.{within, outside}
-use Rattle.region_file.specs.Fields.{record-at, first-record, level, zeros, records, most-records}
-use Rattle.region_file.specs.Judge.{whole, not-reserved, returning, too-many, link-tests, link-outcome, nowhere, also, chain, judge-outcome}
+use Rattle.stage.proofs.Limits.{both}
+use Rattle.region_file.specs.Fields.{record-at, first-record, level, reserved-zero, records, most-records}
+use Rattle.region_file.specs.Judge.{whole, reserved-used, returning, too-many, link-tests, link-outcome, nowhere, also, chain, judge-outcome}
 
 -- a record that passes the tests of a link
 pub record Passed (limit : ℕ) (file : List ℕ) (seen : Bool) (n : ℕ) : Type 0 where
@@ -45,10 +46,15 @@ module _ {A : Type 0} {after : Outcome A} {b : A} (limit : ℕ) (file : List ℕ
       )
 
 module _ (limit : ℕ) (file : List ℕ) where
-  pub chain-end : (links : ℕ) (v : ℕ → Bool) (n : ℕ) → n ≡ 0 → chain limit file links v n ≡ accepted tt
+  pub chain-end : (links : ℕ) → 0 < links → (v : ℕ → Bool) (n : ℕ) → n ≡ 0 → chain limit file links v n ≡ accepted tt
   unfolding chain
-  chain-end zero v n e = refl
-  chain-end (suc links) v n e = simp (eq-eqb n 0 e)
+  chain-end zero p v n e = absurd (lt-irrefl 0 p)
+  chain-end (suc links) p v n e = simp (eq-eqb n 0 e)
+
+  -- an accepted chain has a link left
+  pub chain-some : (v : ℕ → Bool) (n : ℕ) → chain limit file zero v n ≡ accepted tt → ⊥
+  unfolding chain
+  chain-some v n e = accepted-refused (sym e)
 
   module _ (v : ℕ → Bool) (n : ℕ) (ne : n ≡ 0 → ⊥) where
     pub chain-refused : (links : ℕ) → 0 < links → {k : ℕ} {vs : List ℕ} → link-outcome limit file (v n) n ≡ refused k vs
@@ -86,10 +92,6 @@ pub record Whole (bytes : ℕ) : Type 0 where
   pub most : bytes ≤ 65536
   pub even : bytes % 32 ≡ 0
 
-both : (a b : Bool) → (a && b) ≡ true → (a ≡ true) × (b ≡ true)
-both true b e = (refl, e)
-both false b e = absurd (true≢false (sym e))
-
 not-so : (b : Bool) → not b ≡ true → b ≡ false
 not-so false e = refl
 not-so true e = absurd (true≢false (sym e))
@@ -111,8 +113,8 @@ pub judged-chain : (limit : ℕ) (file : List ℕ) → judge-outcome limit file 
 unfolding judge-outcome
 judged-chain limit file e =
     let after = chain limit file most-records nowhere (first-record file) in
-    let last = not-reserved file ∷ [] in
+    let last = reserved-used file ∷ [] in
     let one = first-accepted after 11 (unknown-level (level file) ∷ last) (not (whole (length file))) e in
     let two = first-accepted after 2 last (unknown-level (level file) .holds) (one .1) in
-    let three = first-accepted after 12 [] (not (zeros file 8 24)) (two .1) in
+    let three = first-accepted after 12 [] (not (reserved-zero file)) (two .1) in
     sym (first-none after) ∙ three .1

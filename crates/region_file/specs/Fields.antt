@@ -38,6 +38,10 @@ unfoldable pub zeros : List ℕ → ℕ → ℕ → Bool
 zeros file at zero = true
 zeros file at (suc n) = eqb (getD file at 0) 0 && zeros file (at + 1) n
 
+-- bytes 8 to 31, which record 0 keeps free
+abbrev pub reserved-zero : List ℕ → Bool
+reserved-zero file = zeros file 8 24
+
 -- how many whole records the bytes hold, record 0 included
 abbrev pub records : List ℕ → ℕ
 records file = length file / 32

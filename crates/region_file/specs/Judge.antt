@@ -4,11 +4,11 @@ use mathlib.Core.Bool.{Bool, false, cond, not, _&&_, _||_}
 use mathlib.Core.List.{List, [], _∷_}
 use lib.Dec.{eqb, leb, ltb}
 use lib.ListN.{length}
-use Rattle.refusal.specs.Outcome.{Outcome, accepted, Test, first}
+use Rattle.refusal.specs.Outcome.{Outcome, accepted, refused, Test, first}
 use Rattle.plan.specs.Pair.{unknown-level}
 use Rattle.stage.specs.Region.{outside}
 use Rattle.region_file.specs.declared.fields.Record.{Record}
-use Rattle.region_file.specs.Fields.{record-at, first-record, level, zeros, records, most-records}
+use Rattle.region_file.specs.Fields.{record-at, first-record, level, reserved-zero, records, most-records}
 
 -- not empty, at most 65,536 bytes, and whole records
 unfoldable pub whole : ℕ → Bool
@@ -18,13 +18,13 @@ whole bytes = not (eqb bytes 0) && (not (ltb 65536 bytes) && eqb (bytes % 32) 0)
 abbrev pub not-whole : List ℕ → Test
 not-whole file = record { number = 11; holds = not (whole (length file)) }
 
--- 12: bytes 8 to 31 of record 0 are not all zero
-abbrev pub not-reserved : List ℕ → Test
-not-reserved file = record { number = 12; holds = not (zeros file 8 24) }
+-- 12: the reserved bytes are not all zero
+abbrev pub reserved-used : List ℕ → Test
+reserved-used file = record { number = 12; holds = not (reserved-zero file) }
 
 -- the tests of the file and its record 0, in order
 abbrev pub head-tests : List ℕ → List Test
-head-tests file = not-whole file ∷ unknown-level (level file) ∷ not-reserved file ∷ []
+head-tests file = not-whole file ∷ unknown-level (level file) ∷ reserved-used file ∷ []
 
 -- 13: the file has no record n
 abbrev pub missing : List ℕ → ℕ → Test
@@ -58,9 +58,10 @@ nowhere k = false
 abbrev pub also : ℕ → (ℕ → Bool) → ℕ → Bool
 also n visited k = eqb k n || visited k
 
--- the chain from the number n on, of at most so many links, after those that visited the records before. Number 0 ends it
+-- the chain from the number n on, after links that visited the records before. Number 0 ends it. A chain with more links than it may have
+-- has returned to a record (`Theorem`)
 unfoldable pub chain : ℕ → List ℕ → ℕ → (ℕ → Bool) → ℕ → Outcome Unit
-chain limit file zero visited n = accepted tt
+chain limit file zero visited n = refused 14 []
 chain limit file (suc links) visited n =
     cond (eqb n 0) (accepted tt) (first (link-tests limit file (visited n) n) (chain limit file links (also n visited) (record-at file n .next)))
 

@@ -4,7 +4,7 @@ use mathlib.Core.Path.{_≡_}
 use mathlib.Core.Bool.{true}
 use mathlib.Core.List.{List}
 use lib.ListN.{length}
-use Rattle.region_file.specs.Fields.{record-at, first-record, level, zeros, most-records}
+use Rattle.region_file.specs.Fields.{record-at, first-record, level, reserved-zero, most-records}
 use Rattle.region_file.specs.Judge.{whole, nowhere, chain, judge-outcome}
 
 -- a judgement that looks at more links comes to the same
@@ -16,7 +16,7 @@ ChainsEnd = (limit : ℕ) (file : List ℕ) (links n : ℕ) → whole (length fi
 pub record SameOnChain (file other : List ℕ) (On : ℕ → Type 0) : Type 0 where
   pub bytes : length file ≡ length other
   pub levels : level file ≡ level other
-  pub reserved : zeros file 8 24 ≡ zeros other 8 24
+  pub reserved : reserved-zero file ≡ reserved-zero other
   pub firsts : first-record file ≡ first-record other
   pub begins : On (first-record file)
   pub goes-on : (n : ℕ) → On n → (n ≡ 0 → ⊥) → On (record-at file n .next)

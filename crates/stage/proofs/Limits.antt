@@ -27,7 +27,8 @@ pub position-told : {z : ℤ} (e : ℤ) (x w : ℕ) → SFits w32 e → SFits w3
     ≡ position e x w
 position-told {z} e x w f g p = toZ-ofZ w32 z g ∙ p ∙ ap (λ (y : ℤ). position y x w) (toZ-ofZ w32 e f)
 
-both : (a b : Bool) → (a && b) ≡ true → (a ≡ true) × (b ≡ true)
+-- a conjunction holds of each part
+pub both : (a b : Bool) → (a && b) ≡ true → (a ≡ true) × (b ≡ true)
 both true b e = (refl, e)
 both false b e = absurd (true≢false (sym e))
 

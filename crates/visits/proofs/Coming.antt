@@ -17,25 +17,25 @@ use Rattle.stage.specs.Region.{within}
 use Rattle.region_file.specs.declared.fields.Record.{Record}
 use Rattle.region_file.specs.Fields.{records}
 use Rattle.region_file.specs.Judge.{chain}
-use Rattle.region_file.proofs.Chain.{Linked, linked}
+use Rattle.region_file.proofs.Chain.{Linked, linked, chain-some}
 use Rattle.visits.specs.declared.place.Visit.{Visit}
 use Rattle.visits.specs.declared.place.Place.{Place}
-use Rattle.visits.specs.Visits.{planned, position-of, visit, run, numbers, of-records}
+use Rattle.visits.specs.Visits.{planned, position-of, visit, stretch, numbers, of-records}
 use Rattle.visits.specs.Place.{listable, from, to-come, position-outcome, leading-to, ended, past}
 
--- a run of some visits, and of none
-run-more : (n : ℕ) (r : Record) (i k : ℕ) → 0 < k → run n r i k ≡ visit n r i ∷ run n r (i + 1) (k - 1)
+-- a stretch of some visits, and of none
+stretch-more : (n : ℕ) (r : Record) (i k : ℕ) → 0 < k → stretch n r i k ≡ visit n r i ∷ stretch n r (i + 1) (k - 1)
 unfolding range
-run-more n r i zero h = absurd (lt-irrefl 0 h)
-run-more n r i (suc k) h =
+stretch-more n r i zero h = absurd (lt-irrefl 0 h)
+stretch-more n r i (suc k) h =
     let p : suc i ≡ i + 1 = omega arith in
     let q : k ≡ suc k - 1 = omega arith in
     ap (λ (s : List ℕ). visit n r i ∷ map (visit n r) s) (ap (λ (j : ℕ). range j k) p ∙ ap (range (i + 1)) q)
 
-run-none : (n : ℕ) (r : Record) (i k : ℕ) → k ≤ 0 → run n r i k ≡ []
+stretch-none : (n : ℕ) (r : Record) (i k : ℕ) → k ≤ 0 → stretch n r i k ≡ []
 unfolding range
-run-none n r i zero h = refl
-run-none n r i (suc k) h = absurd (omega arith)
+stretch-none n r i zero h = refl
+stretch-none n r i (suc k) h = absurd (omega arith)
 
 -- ---- records that can be listed
 
@@ -87,25 +87,25 @@ from-stop file zero n h = refl
 from-stop file (suc links) n h = simp h
 
 pub from-more : (file : List ℕ) (links n : ℕ) → 0 < links → listable file n ≡ true
-    → from file links n ≡ run n (planned file n) 0 (planned file n .count) ++ from file (links - 1) (planned file n .next)
+    → from file links n ≡ stretch n (planned file n) 0 (planned file n .count) ++ from file (links - 1) (planned file n .next)
 unfolding from
 from-more file zero n p h = absurd (lt-irrefl 0 p)
 from-more file (suc links) n p h =
     let q : links ≡ suc links - 1 = omega arith in
-    simp h (ap (λ (k : ℕ). run n (planned file n) 0 (planned file n .count) ++ from file k (planned file n .next)) q)
+    simp h (ap (λ (k : ℕ). stretch n (planned file n) 0 (planned file n .count) ++ from file k (planned file n .next)) q)
 
 -- a record without visits
 pub from-empty : (file : List ℕ) (links n : ℕ) → 0 < links → listable file n ≡ true → planned file n .count ≤ 0
     → from file links n ≡ from file (links - 1) (planned file n .next)
 from-empty file links n p h e =
     from-more file links n p h ∙ ap (λ (l : List Visit). l ++ from file (links - 1) (planned file n .next))
-    (run-none n (planned file n) 0 (planned file n .count) e)
+    (stretch-none n (planned file n) 0 (planned file n .count) e)
 
 -- ---- a place
 
 module _ (file : List ℕ) (p : Place) where
   pub to-come-within : within (p .planned .region) ≡ true
-      → to-come file p ≡ run (p .number) (p .planned) (p .index) (p .planned .count - p .index) ++ from file (p .links) (p .planned .next)
+      → to-come file p ≡ stretch (p .number) (p .planned) (p .index) (p .planned .count - p .index) ++ from file (p .links) (p .planned .next)
   unfolding to-come
   to-come-within e = simp e
 
@@ -118,7 +118,7 @@ module _ (file : List ℕ) (p : Place) where
   to-come-next e h =
       let none : p .planned .count - p .index ≤ 0 = omega arith in
       to-come-within e ∙ ap (λ (l : List Visit). l ++ from file (p .links) (p .planned .next))
-      (run-none (p .number) (p .planned) (p .index) (p .planned .count - p .index) none)
+      (stretch-none (p .number) (p .planned) (p .index) (p .planned .count - p .index) none)
 
 -- its first visit, and the place past it
 pub to-come-first : (file : List ℕ) (p : Place) → within (p .planned .region) ≡ true → p .index < p .planned .count
@@ -131,7 +131,7 @@ to-come-first file p e h =
     let some : 0 < r .count - i = omega arith in
     let one : r .count - i - 1 ≡ r .count - (i + 1) = omega arith in
     to-come-within file p e
-    ∙ ap (λ (l : List Visit). l ++ rest) (run-more n r i (r .count - i) some ∙ ap (λ (k : ℕ). visit n r i ∷ run n r (i + 1) k) one)
+    ∙ ap (λ (l : List Visit). l ++ rest) (stretch-more n r i (r .count - i) some ∙ ap (λ (k : ℕ). visit n r i ∷ stretch n r (i + 1) k) one)
     ∙ ap (λ (l : List Visit). visit n r i ∷ l) (sym (to-come-within file (past p) e))
 
 -- the start of a record
@@ -144,7 +144,7 @@ start-comes file links n p h =
     let r = planned file n in
     let all : r .count - 0 ≡ r .count = omega arith in
     to-come-within file (start-of n r (links - 1)) (listable-within file n h)
-    ∙ ap (λ (k : ℕ). run n r 0 k ++ from file (links - 1) (r .next)) all
+    ∙ ap (λ (k : ℕ). stretch n r 0 k ++ from file (links - 1) (r .next)) all
     ∙ sym (from-more file links n p h)
 
 -- behind a record without visits, the chain is to come
@@ -165,7 +165,7 @@ ended-comes file = leading-comes file 0 0 ∙ from-over file 0 0 (le-refl 0)
 pub from-accepted : (limit : ℕ) (file : List ℕ) (links : ℕ) (v : ℕ → Bool) (n : ℕ) → chain limit file links v n ≡ accepted tt
     → from file links n ≡ of-records file (numbers file links n)
 unfolding from numbers of-records
-from-accepted limit file zero v n h = refl
+from-accepted limit file zero v n h = absurd (chain-some limit file v n h)
 from-accepted limit file (suc links) v n h = go (linked limit file links v n h) (λ v n h. from-accepted limit file links v n h)
   where
     go : (n ≡ 0) ⊎ Linked limit file links v n →
@@ -173,3 +173,18 @@ from-accepted limit file (suc links) v n h = go (linked limit file links v n h) 
         → from file (suc links) n ≡ of-records file (numbers file (suc links) n)
     go (inl e) more = simp (listable-zero file n e, eq-eqb n 0 e)
     go (inr l) more = simp (listable-region file n (l .some) (l .link .here) ∙ l .link .inside, ne-eqb n 0 (l .some), more _ _ (l .rest))
+
+-- looking at more links finds no more records
+pub numbers-enough : (limit : ℕ) (file : List ℕ) (links more : ℕ) (v : ℕ → Bool) (n : ℕ) → chain limit file links v n ≡ accepted tt
+    → numbers file (links + more) n ≡ numbers file links n
+unfolding numbers
+numbers-enough limit file zero more v n h = absurd (chain-some limit file v n h)
+numbers-enough limit file (suc links) more v n h =
+    let e : suc links + more ≡ suc (links + more) = omega arith in
+    ap (λ (k : ℕ). numbers file k n) e ∙ go (linked limit file links v n h) (λ v n h. numbers-enough limit file links more v n h)
+  where
+    go : (n ≡ 0) ⊎ Linked limit file links v n
+        → ((v : ℕ → Bool) (n : ℕ) → chain limit file links v n ≡ accepted tt → numbers file (links + more) n ≡ numbers file links n)
+        → numbers file (suc (links + more)) n ≡ numbers file (suc links) n
+    go (inl e) rest = simp (eq-eqb n 0 e)
+    go (inr l) rest = simp (ne-eqb n 0 (l .some), rest _ _ (l .rest))

@@ -19,7 +19,7 @@ use Rattle.visits.specs.declared.place.Step.the-variants as step
 use Rattle.visits.specs.declared.place.Stepped.{Stepped}
 use Rattle.visits.specs.declared.place.Opened.{Opened}
 use Rattle.visits.specs.declared.place.Opened.the-variants as opened
-use Rattle.visits.specs.Visits.{planned, position-of, visit, run}
+use Rattle.visits.specs.Visits.{planned, position-of, visit, stretch}
 
 -- a number that names a record of the file whose region lies within its limits
 unfoldable pub listable : List ℕ → ℕ → Bool
@@ -29,13 +29,13 @@ listable file n = not (eqb n 0) && (not (leb (records file) n) && within (planne
 unfoldable pub from : List ℕ → ℕ → ℕ → List Visit
 from file zero n = []
 from file (suc links) n =
-    cond (listable file n) (run n (planned file n) 0 (planned file n .count) ++ from file links (planned file n .next)) []
+    cond (listable file n) (stretch n (planned file n) 0 (planned file n .count) ++ from file links (planned file n .next)) []
 
 -- the visits still to come: those left of the place's own record, and then the chain from the next number on
 unfoldable pub to-come : List ℕ → Place → List Visit
 to-come file p =
     let r = p .planned in
-    cond (within (r .region)) (run (p .number) r (p .index) (r .count - p .index) ++ from file (p .links) (r .next)) []
+    cond (within (r .region)) (stretch (p .number) r (p .index) (r .count - p .index) ++ from file (p .links) (r .next)) []
 
 -- what a step gives: the first visit to come and the place past it, or that none is to come
 abbrev pub Gives : List ℕ → Place → Step → Place → Type 0

@@ -1,14 +1,17 @@
 -- What users rely on: the steps from an opened file give its visits, one after the other, and then the end.
-use Prim.Native.Nat.{ℕ, zero, suc}
+use Prim.Native.Nat.{ℕ, zero, suc, _≤_}
 use mathlib.Core.Path.{_≡_}
 use mathlib.Core.List.{List, [], _∷_}
 use lib.ListN.{length}
+use Rattle.refusal.specs.Outcome.{accepted}
+use Rattle.region_file.specs.Fields.{first-record, most-records}
+use Rattle.region_file.specs.Judge.{judge-outcome, most-visits}
 use Rattle.visits.specs.declared.place.Visit.{Visit}
 use Rattle.visits.specs.declared.place.Place.{Place}
 use Rattle.visits.specs.declared.place.Step.{Step}
 use Rattle.visits.specs.declared.place.Step.the-variants as step
 use Rattle.visits.specs.declared.place.Opened.the-variants as opened
-use Rattle.visits.specs.Visits.{visits, visits-outcome}
+use Rattle.visits.specs.Visits.{numbers, visits, visits-outcome}
 use Rattle.visits.specs.Place.{to-come, Gives, of-opened}
 
 -- steps one after the other, each from the place that the one before handed back
@@ -23,6 +26,9 @@ answers (suc n) [] = step.Ended ∷ answers n []
 answers (suc n) (v ∷ vs) = step.Visited v ∷ answers n vs
 
 pub record Theorems : Type 0 where
+  -- the numbers of an accepted file are its whole chain: looking at more links finds no more
+  pub whole-chain : (file : List ℕ) (links : ℕ) → judge-outcome most-visits file ≡ accepted tt → most-records ≤ links
+      → numbers file links (first-record file) ≡ numbers file most-records (first-record file)
   -- from any place in any file
   pub steps : (file : List ℕ) (p q : Place) (ss : List Step) → Steps file p ss q → ss ≡ answers (length ss) (to-come file p)
   -- ONE claim about the list of steps from the place that `open` gives

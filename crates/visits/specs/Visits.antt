@@ -27,8 +27,8 @@ abbrev pub visit : ℕ → Record → ℕ → Visit
 visit n r i = record { number = n; index = i; x = position-of r i .x; y = position-of r i .y }
 
 -- k visits of a record from index i on
-abbrev pub run : ℕ → Record → ℕ → ℕ → List Visit
-run n r i k = map (visit n r) (range i k)
+abbrev pub stretch : ℕ → Record → ℕ → ℕ → List Visit
+stretch n r i k = map (visit n r) (range i k)
 
 -- the numbers of the chain from n on, at most so many. Number 0 ends it
 unfoldable pub numbers : List ℕ → ℕ → ℕ → List ℕ
@@ -38,7 +38,7 @@ numbers file (suc links) n = cond (eqb n 0) [] (n ∷ numbers file links (record
 -- the visits of records one after the other, each from index 0 on
 unfoldable pub of-records : List ℕ → List ℕ → List Visit
 of-records file [] = []
-of-records file (n ∷ ns) = run n (planned file n) 0 (planned file n .count) ++ of-records file ns
+of-records file (n ∷ ns) = stretch n (planned file n) 0 (planned file n .count) ++ of-records file ns
 
 -- the visits of a file, in the order of its chain
 unfoldable pub visits : List ℕ → List Visit
