@@ -8,11 +8,13 @@ use Rattle.listing.specs.declared.cursors.Lead.the-variants as lead
 use Rattle.listing.specs.declared.cursors.Cursor.{Cursor}
 use Rattle.listing.specs.Listing.{header, refused-text, lines, longest-line}
 
+-- what stands before the lines
 abbrev pub lead-text : Lead → List ℕ
 lead-text lead.Nothing = []
 lead-text lead.Header = header
 lead-text (lead.Refused n) = refused-text n
 
+-- and then the lines of the visits still to come
 unfoldable pub to-come : List ℕ → Cursor → List ℕ
 to-come file c = lead-text (c .lead) ++ lines (visits-to-come file (c .place))
 

@@ -26,6 +26,7 @@ line v = number-text (v .number) 32 ++ (number-text (v .index) 32 ++ (signed-tex
 abbrev pub longest-line : ℕ
 longest-line = 46
 
+-- one after the other
 unfoldable pub lines : List Visit → List ℕ
 lines [] = []
 lines (v ∷ vs) = line v ++ lines vs
@@ -35,5 +36,6 @@ abbrev pub report : Outcome (List Visit) → List ℕ
 report (accepted vs) = header ++ lines vs
 report (refused n values) = refused-text n
 
+-- the text that the program prints
 unfoldable pub listing : List ℕ → List ℕ
 listing file = report (visits-outcome file)

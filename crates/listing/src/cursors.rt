@@ -1,4 +1,5 @@
 // Where a listing stands, and its next piece.
+use crate::lines::LONGEST_LINE;
 use crate::lines::put_lines;
 use visits::Opened;
 use visits::Place;
@@ -67,7 +68,7 @@ impl Cursor {
         ensures piece { λ r. ⌜ Paged (now (file .entry)) self (r .next) (take (r .len) (now (out .exit))) (length (now (out .exit))) ⌝ }
         ensures rest { λ r. ⌜ drop (r .len) (now (out .exit)) ≡ drop (r .len) (now (out .entry)) ⌝ }
     {
-        if out.len() < 46 {
+        if out.len() < LONGEST_LINE {
             return Page { len: 0, next: self };
         }
         let lead = self.lead;

@@ -9,6 +9,9 @@ ghost use Rattle.text.specs.Put.{put};
 ghost use Rattle.listing.specs.Listing.{line, longest-line};
 ghost use Rattle.listing.specs.Lines.{LinesPut};
 
+// The most bytes that a line has.
+pub(crate) const LONGEST_LINE: usize = 46;
+
 pub(crate) struct Filled {
     pub len: usize,
     pub place: Place,
@@ -35,7 +38,7 @@ pub(crate) fn put_lines(file: &[u8], start: Place, out: &mut [u8], at: usize) ->
 {
     let mut place = start;
     let mut len = at;
-    while out.len() - len >= 46 {
+    while out.len() - len >= LONGEST_LINE {
         let stepped = place.step(file);
         let answer = stepped.step;
         let next = stepped.place;

@@ -1,4 +1,4 @@
--- Laws of the ordered tests: how the first of them decides; and of what is granted. Assumes nothing.
+-- Laws of the ordered tests: how the first of them decides; of what is granted, and of what comes after. Assumes nothing.
 use mathlib.Core.Path.{_≡_, refl, sym, ap, _∙_}
 use mathlib.Core.Bool.{Bool, true, false}
 use mathlib.Core.List.{List, [], _∷_}

@@ -37,7 +37,7 @@ sum-small (pos a) n t h = let p : a ≤ 1000000 = nltb→le 1000000 a t in omega
 sum-small (negsuc a) n t h = difference n a (ltb n (suc a)) h (nltb→le 999999 a (and-l (not (ltb 999999 a)) true t))
 
 -- an edge within its limits, moved by no more than an extent, is a small number
-pub moved-small : (e : ℤ) (n : ℕ) → edge-within e ≡ true → n ≤ largest-extent → mag (e +ℤ pos n) < 2 ^ 30
+moved-small : (e : ℤ) (n : ℕ) → edge-within e ≡ true → n ≤ largest-extent → mag (e +ℤ pos n) < 2 ^ 30
 moved-small e n t h = sum-small e n (subst T (sym t) tt) h
 
 pub moved-fits : (e : ℤ) (n : ℕ) → edge-within e ≡ true → n ≤ largest-extent → SFits w32 (e +ℤ pos n)

@@ -4,16 +4,18 @@ ghost use mathlib.Core.Bool.{true};
 ghost use Prim.Native.Nat.{_≤_};
 ghost use Rattle.stage.specs.Position.{edge-within, extent-within, offset, position, largest-extent};
 
-// The farthest that an edge lies from 0, either way.
-pub(crate) const LARGEST_EDGE: i32 = 1000000;
+// The limits of an edge, in µm.
+const SMALLEST_EDGE: i32 = -1000000;
+
+const LARGEST_EDGE: i32 = 1000000;
 
 // The largest width and height.
-pub(crate) const LARGEST_EXTENT: u32 = 1000000;
+const LARGEST_EXTENT: u32 = 1000000;
 
 pub(crate) fn edge_within(edge: i32) -> bool
     ensures { λ r. ⌜ r ≡ edge-within edge ⌝ }
 {
-    if edge < -1000000 {
+    if edge < SMALLEST_EDGE {
         return false;
     }
     if edge > LARGEST_EDGE {

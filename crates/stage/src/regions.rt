@@ -18,6 +18,7 @@ pub struct Position {
     pub y: i32,
 }
 
+// A position, or 10.
 pub enum Placed {
     At(Position),
     Refused(Refusal),

@@ -1,4 +1,4 @@
--- The digits of a number by the cases of the code, the lengths of texts, and reading back.
+-- The digits of a number by the cases of the code, and the lengths of texts.
 -- Assumes nothing.
 use mathlib.Core.Path.{_≡_, refl, ap}
 use mathlib.Core.Bool.{Bool, true, false, cond}

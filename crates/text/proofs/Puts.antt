@@ -16,14 +16,14 @@ use Rattle.text.specs.Put.{put, written, end}
 pub put-one : (d : List ℕ) (at b : ℕ) → at < length d → set d at b ≡ put d at (b ∷ [])
 put-one d at b h = set-split d at b h ∙ ap (λ (k : ℕ). take at d ++ b ∷ drop k d) (sym (add-one at))
 
-pub length-put : (d : List ℕ) (at : ℕ) (s : List ℕ) → at + length s ≤ length d → length (put d at s) ≡ length d
+length-put : (d : List ℕ) (at : ℕ) (s : List ℕ) → at + length s ≤ length d → length (put d at s) ≡ length d
 length-put d at s h = simp (length-append, length-drop, length-take-le at d (omega arith)) (omega arith)
 
 put-end : (d : List ℕ) (at : ℕ) (s : List ℕ) → at ≤ length d → length (take at d ++ s) ≡ at + length s
 put-end d at s h = length-append (take at d) s ∙ ap (λ (k : ℕ). k + length s) (length-take-le at d h)
 
 -- a text right behind another is put as one with it
-pub put-put : (d : List ℕ) (at : ℕ) (s t : List ℕ) → at + length s + length t ≤ length d → put (put d at s) (at + length s) t ≡ put d at (s ++ t)
+put-put : (d : List ℕ) (at : ℕ) (s t : List ℕ) → at + length s + length t ≤ length d → put (put d at s) (at + length s) t ≡ put d at (s ++ t)
 put-put d at s t h =
     let n = at + length s in
     let p = take at d ++ s in

@@ -23,6 +23,7 @@ sign (negsuc n) = 45 ∷ []
 unfoldable pub number-text : ℕ → ℕ → List ℕ
 number-text n last = decimal n ++ (last ∷ [])
 
+-- the same of a signed number
 unfoldable pub signed-text : ℤ → ℕ → List ℕ
 signed-text z last = sign z ++ number-text (natAbs z) last
 

@@ -5,6 +5,7 @@ use mathlib.Core.List.{List, [], _∷_, _++_}
 use lib.ListN.{length, take}
 
 -- n counts elements at the start of a list. The second part follows from the first: with it a caller lends `&buffer[..n]` without a proof
+-- (the kit's io says it too, but rests on C functions)
 abbrev pub Counts : ℕ → List ℕ → Type 0
 Counts n xs = (n ≤ length xs) × (n ≡ length (take n xs))
 

@@ -21,7 +21,8 @@ use Rattle.region_file.proofs.Chain.{Linked, linked, chain-some}
 use Rattle.visits.specs.declared.place.Visit.{Visit}
 use Rattle.visits.specs.declared.place.Place.{Place}
 use Rattle.visits.specs.Visits.{planned, position-of, visit, stretch, numbers, of-records}
-use Rattle.visits.specs.Place.{listable, from, to-come, position-outcome, leading-to, ended, past}
+use Rattle.visits.specs.Place.{listable, from, to-come, leading-to, ended}
+use Rattle.visits.specs.Stepping.{position-outcome, past}
 
 -- a stretch of some visits, and of none
 stretch-more : (n : ℕ) (r : Record) (i k : ℕ) → 0 < k → stretch n r i k ≡ visit n r i ∷ stretch n r (i + 1) (k - 1)
@@ -51,7 +52,7 @@ pub listable-region : (file : List ℕ) (n : ℕ) → (n ≡ 0 → ⊥) → n < 
 unfolding listable
 listable-region file n e h = simp (ne-eqb n 0 e, lt-leb _ _ h)
 
-pub listable-within : (file : List ℕ) (n : ℕ) → listable file n ≡ true → within (planned file n .region) ≡ true
+listable-within : (file : List ℕ) (n : ℕ) → listable file n ≡ true → within (planned file n .region) ≡ true
 unfolding listable
 listable-within file n e = go (not (eqb n 0)) (not (leb (records file) n)) e
   where
@@ -86,7 +87,7 @@ unfolding from
 from-stop file zero n h = refl
 from-stop file (suc links) n h = simp h
 
-pub from-more : (file : List ℕ) (links n : ℕ) → 0 < links → listable file n ≡ true
+from-more : (file : List ℕ) (links n : ℕ) → 0 < links → listable file n ≡ true
     → from file links n ≡ stretch n (planned file n) 0 (planned file n .count) ++ from file (links - 1) (planned file n .next)
 unfolding from
 from-more file zero n p h = absurd (lt-irrefl 0 p)
@@ -104,7 +105,7 @@ from-empty file links n p h e =
 -- ---- a place
 
 module _ (file : List ℕ) (p : Place) where
-  pub to-come-within : within (p .planned .region) ≡ true
+  to-come-within : within (p .planned .region) ≡ true
       → to-come file p ≡ stretch (p .number) (p .planned) (p .index) (p .planned .count - p .index) ++ from file (p .links) (p .planned .next)
   unfolding to-come
   to-come-within e = simp e

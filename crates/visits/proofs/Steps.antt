@@ -16,7 +16,8 @@ use Rattle.visits.specs.declared.place.Step.{Step}
 use Rattle.visits.specs.declared.place.Step.the-variants as step
 use Rattle.visits.specs.declared.place.Stepped.{Stepped}
 use Rattle.visits.specs.Visits.{visit}
-use Rattle.visits.specs.Place.{to-come, Gives, past, here}
+use Rattle.visits.specs.Place.{to-come, Gives}
+use Rattle.visits.specs.Stepping.{past, here}
 use Rattle.visits.proofs.Coming.{to-come-outside, to-come-first}
 
 -- a visit, told with the place past it

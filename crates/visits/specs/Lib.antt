@@ -1,3 +1,4 @@
 pub mod Visits
 pub mod Place
+pub mod Stepping
 pub mod Theorem

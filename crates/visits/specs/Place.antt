@@ -1,25 +1,21 @@
 -- The visits still to come from a place, whatever its fields and the file.
-use Prim.Native.Nat.{ℕ, zero, suc, _+_, _-_, _<_}
+use Prim.Native.Nat.{ℕ, zero, suc, _+_, _-_}
 use mathlib.Core.Path.{_≡_}
 use mathlib.Core.Bool.{Bool, cond, not, _&&_}
-use mathlib.Core.Logic.{_⊎_}
 use mathlib.Core.List.{List, [], _∷_, _++_}
 use lib.Dec.{eqb, leb}
 use lib.IntN.{pos}
-use Rattle.refusal.specs.Outcome.{Outcome, accepted, first}
+use Rattle.refusal.specs.Outcome.{Outcome, accepted}
 use Rattle.refusal.specs.Refusal.{of-refusal}
-use Rattle.stage.specs.declared.regions.Position.{Position}
-use Rattle.stage.specs.Region.{within, outside}
-use Rattle.region_file.specs.declared.fields.Record.{Record}
+use Rattle.stage.specs.Region.{within}
 use Rattle.region_file.specs.Fields.{records}
 use Rattle.visits.specs.declared.place.Visit.{Visit}
 use Rattle.visits.specs.declared.place.Place.{Place}
 use Rattle.visits.specs.declared.place.Step.{Step}
 use Rattle.visits.specs.declared.place.Step.the-variants as step
-use Rattle.visits.specs.declared.place.Stepped.{Stepped}
 use Rattle.visits.specs.declared.place.Opened.{Opened}
 use Rattle.visits.specs.declared.place.Opened.the-variants as opened
-use Rattle.visits.specs.Visits.{planned, position-of, visit, stretch}
+use Rattle.visits.specs.Visits.{planned, stretch}
 
 -- a number that names a record of the file whose region lies within its limits
 unfoldable pub listable : List ℕ → ℕ → Bool
@@ -64,24 +60,3 @@ leading-to next links = record {
 -- and a place from which nothing is to come
 abbrev pub ended : Place
 ended = leading-to 0 0
-
--- ---- inner promises
-
--- where the visit with index i of a record lies, or 10
-abbrev pub position-outcome : Record → ℕ → Outcome Position
-position-outcome r i = first (outside (r .region) ∷ []) (accepted (position-of r i))
-
--- the visit at a place, if there is one
-abbrev pub past : Place → Place
-past p = record { number = p .number; planned = p .planned; index = p .index + 1; links = p .links }
-
-unfoldable pub here : Place → Stepped
-here p =
-    cond (not (leb (p .planned .count) (p .index)) && within (p .planned .region))
-    (record { step = step.Visited (visit (p .number) (p .planned) (p .index)); place = past p })
-    (record { step = step.Ended; place = p })
-
--- a place from which the visits of the chain from a number on are to come: it has a visit, or none is to come
-pub record Found (file : List ℕ) (n links : ℕ) (p : Place) : Type 0 where
-  pub same : to-come file p ≡ from file links n
-  pub ready : (p .index < p .planned .count) ⊎ (to-come file p ≡ [])

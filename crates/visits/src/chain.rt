@@ -5,7 +5,8 @@ use region_file::Record;
 use stage::Region;
 ghost use mathlib.Core.Path.{_≡_};
 ghost use Rattle.visits.specs.Visits.{planned};
-ghost use Rattle.visits.specs.Place.{listable, leading-to, Found};
+ghost use Rattle.visits.specs.Place.{listable, leading-to};
+ghost use Rattle.visits.specs.Stepping.{Found};
 
 // Record n as the planner reads it.
 fn planned(file: &[u8], n: u32) -> Record
@@ -59,7 +60,7 @@ pub(crate) fn found(file: &[u8], start: u32, links: u32) -> Place
     let mut left = links;
     while left > 0 {
         if !listable(file, n) {
-            return leading_to(0, 0);
+            return Place::ended();
         }
         left -= 1;
         let entry = planned(file, n);
@@ -73,5 +74,5 @@ pub(crate) fn found(file: &[u8], start: u32, links: u32) -> Place
         }
         n = entry.next;
     }
-    leading_to(0, 0)
+    Place::ended()
 }

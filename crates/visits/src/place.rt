@@ -9,9 +9,10 @@ use stage::Placed;
 ghost use mathlib.Core.Path.{_≡_};
 ghost use Rattle.visits.specs.Visits.{visits-outcome};
 ghost use Rattle.stage.specs.Region.{of-placed};
-ghost use Rattle.visits.specs.Place.{position-outcome, here, Gives, of-opened, ended};
+ghost use Rattle.visits.specs.Place.{Gives, of-opened, ended};
+ghost use Rattle.visits.specs.Stepping.{position-outcome, here};
 
-// The number of the record, an index in it, and the position in µm.
+// A visit of a file: the number of its record, its index there, and its position in µm (plan's `Visit` has the point).
 pub struct Visit {
     pub number: u32,
     pub index: u32,
@@ -27,16 +28,19 @@ pub struct Place {
     pub links: u32,
 }
 
+// What a step gives: the next visit, or the end.
 pub enum Step {
     Visited(Visit),
     Ended,
 }
 
+// A step together with the place after it.
 pub struct Stepped {
     pub step: Step,
     pub place: Place,
 }
 
+// The place before the first visit, or the refusal of the file.
 pub enum Opened {
     Open(Place),
     Refused(Refusal),

@@ -137,7 +137,8 @@ returns-2 : tie.Need-returns-2 Inv-loop μ-loop
 returns-2 c =
     let a = c .before .before .before .before .args in
     let i = c .before .loop in
-    sym (chain-end (a .limit) (now (a .file)) (free (i .marks)) (free-some (i .marks) (i .inv .0) (i .inv .1)) (marked (i .marks)) (i .n) (c .loop-test .left)) ∙ i .inv .3
+    sym (chain-end (a .limit) (now (a .file)) (free (i .marks)) (free-some (i .marks) (i .inv .0) (i .inv .1)) (marked (i .marks)) (i .n)
+    (c .loop-test .left)) ∙ i .inv .3
 
 pub judge-chain-spec : {M : Type 1} → statement M
 judge-chain-spec =

@@ -9,7 +9,8 @@ use borrow.Author.Needs.{needs}
 use borrow.Author.Tests.{not-true, not-false}
 use Rattle.region_file.specs.declared.fields.Record.{Record}
 use Rattle.visits.specs.declared.place.Place.{Place}
-use Rattle.visits.specs.Place.{from, to-come, ended, Found}
+use Rattle.visits.specs.Place.{from, to-come, ended}
+use Rattle.visits.specs.Stepping.{Found}
 use Rattle.visits.proofs.Coming.{from-over, from-stop, from-empty, start-of, start-comes, ended-comes}
 use Rattle.visits.proofs.chain.found.Statement.{statement}
 use Rattle.visits.proofs.chain.found.Tie as tie
@@ -26,8 +27,8 @@ loop-holds c = search needs
 listable-requires : tie.Need-listable-requires Inv-loop μ-loop
 listable-requires c κs = search needs
 
-leading-to-requires : tie.Need-leading-to-requires Inv-loop μ-loop
-leading-to-requires c κs = search needs
+ended-requires : tie.Need-ended-requires Inv-loop μ-loop
+ended-requires c κs = search needs
 
 -- a place that has ended, where nothing is to come
 none : (file : List ℕ) (start links : ℕ) (p : Place) → p ≡ ended → from file links start ≡ [] → Found file start links p
@@ -41,7 +42,7 @@ returns c =
     let i = c .before .before .before .before .loop in
     let e = from-stop file (i .left) (i .n) (sym (c .before .before .listable .ensures) ∙ not-true _ (c .before .if1 .taken)) in
     none file (c .before .before .before .before .before .before .args .start) (c .before .before .before .before .before .before .args .links)
-    (c .leading-to .result) (c .leading-to .ensures) (sym (i .inv .2) ∙ e)
+    (c .ended .result) (c .ended .ensures) (sym (i .inv .2) ∙ e)
 
 sub-left : tie.Need-sub-left Inv-loop μ-loop
 sub-left c = search needs
@@ -75,15 +76,15 @@ loop-again c =
           ∙ i .inv .2,
     )
 
-leading-to-requires-2 : tie.Need-leading-to-requires-2 Inv-loop μ-loop
-leading-to-requires-2 c κs = search needs
+ended-requires-2 : tie.Need-ended-requires-2 Inv-loop μ-loop
+ended-requires-2 c κs = search needs
 
 returns-3 : tie.Need-returns-3 Inv-loop μ-loop
 returns-3 c =
     let file = now (c .before .before .before .before .args .file) in
     let i = c .before .before .loop in
-    none file (c .before .before .before .before .args .start) (c .before .before .before .before .args .links) (c .leading-to2 .result)
-    (c .leading-to2 .ensures) (sym (i .inv .2) ∙ from-over file (i .left) (i .n) (c .before .loop-test .left))
+    none file (c .before .before .before .before .args .start) (c .before .before .before .before .args .links) (c .ended2 .result)
+    (c .ended2 .ensures) (sym (i .inv .2) ∙ from-over file (i .left) (i .n) (c .before .loop-test .left))
 
 pub found-spec : {M : Type 1} → statement M
 found-spec =
@@ -93,12 +94,12 @@ found-spec =
     μ-loop
     loop-holds
     listable-requires
-    leading-to-requires
+    ended-requires
     returns
     sub-left
     planned-requires
     returns-2
     loop-less
     loop-again
-    leading-to-requires-2
+    ended-requires-2
     returns-3)

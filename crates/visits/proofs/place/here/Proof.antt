@@ -8,7 +8,7 @@ use mir.ValLaws.{toZ-ofZ}
 use borrow.Author.Tests.{le-leb, lt-leb}
 use Rattle.stage.specs.declared.regions.Position.{Position}
 use Rattle.stage.specs.Region.{of-placed}
-use Rattle.visits.specs.Place.{here}
+use Rattle.visits.specs.Stepping.{here}
 use Rattle.visits.proofs.Coming.{refused-outside, accepted-inside}
 use Rattle.visits.proofs.Steps.{told, here-visit}
 use borrow.Author.Needs.{needs}

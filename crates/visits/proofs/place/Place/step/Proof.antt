@@ -5,7 +5,8 @@ use mathlib.Core.Logic.{inl}
 use denote.Ref.{now}
 use borrow.Author.Tests.{not-true, not-false}
 use Rattle.visits.specs.declared.place.Stepped.{Stepped}
-use Rattle.visits.specs.Place.{Gives, here}
+use Rattle.visits.specs.Place.{Gives}
+use Rattle.visits.specs.Stepping.{here}
 use Rattle.visits.proofs.Coming.{to-come-outside, to-come-next}
 use Rattle.visits.proofs.Steps.{gives-here, gives-same}
 use borrow.Author.Needs.{needs}
