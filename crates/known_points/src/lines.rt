@@ -1,6 +1,8 @@
 // The sections that have a line for each number from 0 on.
 use crate::pairs;
+use crate::places;
 use crate::print;
+use crate::units;
 use plan::Plan;
 use plan::Shift;
 use stratify::Located;
@@ -19,6 +21,11 @@ pub enum Section {
     Cells { m: u32 },
     // The query of the first cell of the shape (32, a).
     Largest,
+    // The unit numbers of a word about a power of two.
+    Units,
+    // The position and the singles of an index.
+    FirstPlaces,
+    SecondPlaces,
 }
 
 pub fn lines(section: Section, count: u32) {
@@ -35,11 +42,14 @@ fn line(section: Section, i: u32) {
         Section::StandardShifted => standard_line(pairs::first_shift(), i),
         Section::Other => other_line(pairs::no_shift(), i),
         Section::OtherShifted => other_line(pairs::other_shift(), i),
-        Section::GapX => gap_line(b"gap-x ", 0, i),
-        Section::GapY => gap_line(b"gap-y ", 32, i),
+        Section::GapX => gap_x_line(i),
+        Section::GapY => gap_y_line(i),
         Section::SumX => sum_line(i),
         Section::Cells { m } => cell_line(m, i),
         Section::Largest => query_line(pairs::other(), pairs::other_shift(), 32, 32, i, 0, 0, 0),
+        Section::Units => units::unit_line(i),
+        Section::FirstPlaces => places::first_place_line(i),
+        Section::SecondPlaces => places::second_place_line(i),
     }
 }
 
@@ -53,6 +63,14 @@ fn other_line(shift: Shift, index: u32) {
     let plan = pairs::other();
     print::number(index);
     print::point_line(plan.point(shift, index));
+}
+
+fn gap_x_line(c: u32) {
+    gap_line(b"gap-x ", 0, c);
+}
+
+fn gap_y_line(c: u32) {
+    gap_line(b"gap-y ", 32, c);
 }
 
 fn gap_line(name: &[u8], first: u32, c: u32) {

@@ -1,14 +1,33 @@
 // Prints what is also computed by rust/reference, and is compared with it byte by byte: the first 1,024 points of the standard pair,
-// plain and shifted, points of a pair that is not standard, and the answers of check, query, fill and walk at their limits.
+// plain and shifted, points of a pair that is not standard, and the answers of check, query, fill and walk at their limits. Then unit
+// numbers by their bits, positions in regions, answers to region files, and listings.
+mod files;
 mod lines;
 mod pairs;
+mod places;
 mod print;
 mod single;
+mod units;
 
 use lines::Section;
 use lines::lines;
 
 fn main() {
+    points();
+    checks();
+    queries();
+    single::fills();
+    single::walks();
+    units::units();
+    places::places();
+    places::positions();
+    units::steps();
+    files::files();
+    files::long();
+    files::listings();
+}
+
+fn points() {
     print::text(b"points standard 0 0\n");
     lines(Section::Standard, 1024);
     print::text(b"points standard 305419896 2596069104\n");
@@ -17,11 +36,17 @@ fn main() {
     lines(Section::Other, 256);
     print::text(b"points other 2779096485 1515870810\n");
     lines(Section::OtherShifted, 256);
+}
+
+fn checks() {
     single::checks();
     lines(Section::GapX, 32);
     lines(Section::GapY, 32);
     lines(Section::SumX, 32);
     single::checks_of_length();
+}
+
+fn queries() {
     print::text(b"query\n");
     lines(Section::Cells { m: 0 }, 2);
     lines(Section::Cells { m: 1 }, 8);
@@ -31,8 +56,4 @@ fn main() {
     lines(Section::Largest, 33);
     single::queries();
     single::queries_in_order();
-    print::text(b"fill\n");
-    single::fills();
-    print::text(b"walk\n");
-    single::walks();
 }

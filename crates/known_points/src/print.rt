@@ -7,15 +7,27 @@ pub fn text(bytes: &[u8]) {
     io::write_all(1, bytes);
 }
 
-// A number in decimal, with a space after it or at the end of a line.
+// A number in decimal, and a byte after it.
+pub fn wide_number(n: u64, last: u8) {
+    io::print_decimal(1, n);
+    let after = [last];
+    text(&after);
+}
+
+// The same of a word, with a space after it or at the end of a line.
 pub fn number(n: u32) {
-    io::print_decimal(1, n as u64);
-    text(b" ");
+    wide_number(n as u64, b' ');
 }
 
 pub fn last_number(n: u32) {
-    io::print_decimal(1, n as u64);
-    text(b"\n");
+    wide_number(n as u64, b'\n');
+}
+
+// A signed number, and a byte after it.
+pub fn signed_number(z: i32, last: u8) {
+    let mut space = [0u8; 12];
+    let n = text::signed_number(z, last, &mut space, 0);
+    text(&space[..n]);
 }
 
 pub fn point_line(at: Point) {

@@ -15,18 +15,22 @@ fn check_line(name: &[u8], words: &[u32], level: u32) {
 }
 
 pub fn checks() {
-    let standard = pairs::standard_words();
     let other = pairs::other_words();
     let zero = [0u32; 64];
     print::text(b"check\n");
-    check_line(b"standard ", &standard, 0);
-    check_line(b"standard ", &standard, 1);
-    check_line(b"standard ", &standard, 32);
-    check_line(b"standard ", &standard, 33);
-    check_line(b"standard ", &standard, 4294967295);
+    standard_check(0);
+    standard_check(1);
+    standard_check(32);
+    standard_check(33);
+    standard_check(4294967295);
     check_line(b"other ", &other, 32);
     twice_checks();
     check_line(b"zero ", &zero, 1);
+}
+
+fn standard_check(level: u32) {
+    let standard = pairs::standard_words();
+    check_line(b"standard ", &standard, level);
 }
 
 fn twice_checks() {
@@ -113,6 +117,7 @@ fn fill_lines(start: u32, n: usize, k: usize) {
 
 // To the last index; past it; of length 0; under 8 where 9 is due too; of the last index alone.
 pub fn fills() {
+    print::text(b"fill\n");
     fill_lines(4294967293, 3, 3);
     fill_lines(4294967293, 4, 4);
     fill_lines(7, 0, 0);
@@ -154,6 +159,7 @@ fn open_line(start: u32, count: u64) -> Walk {
 }
 
 pub fn walks() {
+    print::text(b"walk\n");
     let a = open_line(4294967294, 2);
     step_line(step_line(step_line(a)));
     open_line(4294967295, 2);

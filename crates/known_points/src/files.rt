@@ -1,0 +1,204 @@
+// Answers to region files: small ones with words changed, and one as long as a file may be.
+use crate::print;
+use listing::Cursor;
+
+// A word from a byte offset on, little-endian.
+fn put_word(file: &mut [u8], at: usize, word: u32) {
+    let bytes = [
+        (word % 256) as u8,
+        (word / 256 % 256) as u8,
+        (word / 65536 % 256) as u8,
+        (word / 16777216) as u8,
+    ];
+    text::bytes(&bytes, file, at);
+}
+
+fn put_record(file: &mut [u8], n: u32, fields: [u32; 8]) {
+    let mut k = 0usize;
+    while k < 8 {
+        put_word(file, n as usize * 32 + k * 4, fields[k]);
+        k += 1;
+    }
+}
+
+// Two records, both in order.
+fn put_base(file: &mut [u8]) {
+    put_record(file, 0, [1, 2, 0, 0, 0, 0, 0, 0]);
+    put_record(file, 1, [2, 4294966796, 0, 1000, 800, 0, 0, 4]);
+    put_record(
+        file,
+        2,
+        [0, 100, 4294967096, 300, 400, 2147483648, 1073741824, 3],
+    );
+}
+
+// The answer to so many bytes of the file, or to all where it has fewer.
+fn answer_line(file: &[u8], length: u32) {
+    let n = io::count(length as isize, file);
+    print::judgement_line(region_file::judge(&file[..n]), b"accepted");
+}
+
+// The base file with a word put at each of two byte offsets, one after the other, and then cut to a length.
+fn file_line(length: u32, at: u32, word: u32, at_2: u32, word_2: u32) {
+    let mut file = [0u8; 96];
+    put_base(&mut file);
+    put_word(&mut file, at as usize, word);
+    put_word(&mut file, at_2 as usize, word_2);
+    print::number(length);
+    print::number(at);
+    print::number(word);
+    print::number(at_2);
+    print::number(word_2);
+    answer_line(&file, length);
+}
+
+// One word changed, and nothing cut.
+fn change_line(at: u32, word: u32) {
+    file_line(96, at, word, at, word);
+}
+
+fn lengths() {
+    file_line(96, 0, 1, 0, 1);
+    file_line(0, 0, 1, 0, 1);
+    file_line(31, 0, 1, 0, 1);
+    file_line(40, 0, 1, 0, 1);
+    file_line(95, 0, 1, 0, 1);
+    file_line(32, 0, 0, 0, 0);
+    file_line(32, 0, 1, 0, 1);
+    file_line(64, 0, 1, 0, 1);
+}
+
+// The first record, the level, and the bytes that must be zero.
+fn headers() {
+    change_line(0, 0);
+    change_line(0, 2);
+    change_line(4, 0);
+    change_line(4, 1);
+    change_line(4, 32);
+    change_line(4, 33);
+    change_line(4, 4294967295);
+    change_line(8, 1);
+    change_line(28, 16777216);
+}
+
+fn links() {
+    change_line(32, 5);
+    change_line(32, 3);
+    change_line(32, 1);
+    change_line(64, 1);
+    change_line(64, 2);
+    change_line(0, 3);
+    change_line(32, 4294967295);
+}
+
+// Limits of record 1, kept and passed: of its edges, its extents and its count.
+fn edges(at: u32) {
+    change_line(at, 1000000);
+    change_line(at, 1000001);
+    change_line(at, 4293967296);
+    change_line(at, 4293967295);
+    change_line(at, 2147483648);
+}
+
+fn extents(at: u32) {
+    change_line(at, 0);
+    change_line(at, 1);
+    change_line(at, 1000000);
+    change_line(at, 1000001);
+    change_line(at, 4294967295);
+}
+
+fn counts() {
+    change_line(60, 0);
+    change_line(60, 4096);
+    change_line(60, 4097);
+    change_line(60, 4294967295);
+}
+
+// Two faults, or a fault off the chain.
+fn two_faults() {
+    file_line(96, 4, 33, 8, 1);
+    file_line(96, 8, 1, 32, 5);
+    file_line(96, 4, 0, 0, 3);
+    file_line(96, 32, 5, 60, 4097);
+    file_line(96, 32, 5, 44, 0);
+    file_line(96, 44, 0, 60, 4097);
+    file_line(96, 64, 1, 60, 4097);
+    file_line(96, 64, 1, 92, 4097);
+    file_line(96, 32, 1, 76, 0);
+    file_line(96, 0, 2, 60, 4097);
+    file_line(96, 0, 2, 44, 0);
+    file_line(96, 32, 0, 92, 4097);
+    file_line(96, 64, 5, 92, 4097);
+    file_line(40, 4, 33, 8, 1);
+}
+
+pub fn files() {
+    print::text(b"files\n");
+    lengths();
+    headers();
+    links();
+    edges(36);
+    edges(40);
+    extents(44);
+    extents(48);
+    counts();
+    two_faults();
+}
+
+// Records 1 to 2,048, each of which names the one before it.
+fn put_chain(file: &mut [u8]) {
+    let mut n = 0u32;
+    while n < 2048 {
+        put_record(file, n + 1, [n, 0, 0, 1, 1, 0, 0, 1]);
+        n += 1;
+    }
+}
+
+// A chain from record 2,047 down through all the others; record 2,048 is one more than a file may have.
+fn put_long(file: &mut [u8]) {
+    put_record(file, 0, [2047, 32, 0, 0, 0, 0, 0, 0]);
+    put_chain(file);
+}
+
+fn long_line(file: &[u8], length: u32) {
+    print::number(length);
+    answer_line(file, length);
+}
+
+fn long_lines(file: &[u8]) {
+    long_line(file, 65536);
+    long_line(file, 65537);
+    long_line(file, 65568);
+    long_line(file, 65504);
+    long_line(file, 32);
+}
+
+pub fn long() {
+    print::text(b"long\n");
+    let mut file = [0u8; 65568];
+    put_long(&mut file);
+    long_lines(&file);
+}
+
+// The listing of the base file with two words changed; a page holds it whole.
+fn list_lines(at: u32, word: u32, at_2: u32, word_2: u32) {
+    let mut file = [0u8; 96];
+    put_base(&mut file);
+    put_word(&mut file, at as usize, word);
+    put_word(&mut file, at_2 as usize, word_2);
+    let mut space = io::buffer();
+    let cursor = Cursor::open(&file);
+    let page = cursor.page(&file, &mut space);
+    let n = page.len;
+    print::text(&space[..n]);
+}
+
+// Two records, no record, a refused file, and one record alone.
+pub fn listings() {
+    print::text(b"list\n");
+    list_lines(0, 1, 0, 1);
+    list_lines(0, 0, 0, 0);
+    list_lines(32, 1, 32, 1);
+    list_lines(32, 0, 36, 4294966796);
+}

@@ -1,0 +1,99 @@
+// Positions in regions: of the first visits of the standard pair with their singles, and of single words.
+use crate::lines::Section;
+use crate::lines::lines;
+use crate::pairs;
+use crate::print;
+use crate::units::singles_line;
+use plan::Plan;
+use plan::Shift;
+use stage::Placed;
+use stage::Region;
+
+// The position with a byte after it, or the line of its refusal.
+fn position_fields(region: Region, x: u32, y: u32, last: u8) {
+    let placed = region.position(x, y);
+    match placed {
+        Placed::At(at) => {
+            print::signed_number(at.x, b' ');
+            print::signed_number(at.y, last);
+        }
+        Placed::Refused(why) => print::refusal_line(why),
+    }
+}
+
+fn place_line(region: Region, shift: Shift, index: u32) {
+    let plan = Plan::standard();
+    let at = plan.point(shift, index);
+    print::number(index);
+    position_fields(region, at.x, at.y, b' ');
+    singles_line(unit::singles_at(plan, shift, index));
+}
+
+pub fn first_place_line(index: u32) {
+    let region = Region {
+        left: -500,
+        top: 0,
+        width: 1000,
+        height: 800,
+    };
+    place_line(region, pairs::no_shift(), index);
+}
+
+pub fn second_place_line(index: u32) {
+    let region = Region {
+        left: -1000000,
+        top: 1000000,
+        width: 1000000,
+        height: 999983,
+    };
+    place_line(region, pairs::first_shift(), index);
+}
+
+pub fn places() {
+    print::text(b"places -500 0 1000 800 0 0\n");
+    lines(Section::FirstPlaces, 1024);
+    print::text(b"places -1000000 1000000 1000000 999983 305419896 2596069104\n");
+    lines(Section::SecondPlaces, 1024);
+}
+
+fn position_line(left: i32, top: i32, width: u32, height: u32, x: u32, y: u32) {
+    print::signed_number(left, b' ');
+    print::signed_number(top, b' ');
+    print::number(width);
+    print::number(height);
+    print::number(x);
+    print::number(y);
+    let region = Region {
+        left,
+        top,
+        width,
+        height,
+    };
+    position_fields(region, x, y, b'\n');
+}
+
+// The floor, and the ends.
+pub fn positions() {
+    print::text(b"positions\n");
+    position_line(-1, -1, 3, 3, 1073741824, 3221225472);
+    position_line(-1000000, -1000000, 1, 1, 4294967295, 4294967295);
+    position_line(1000000, 1000000, 1000000, 1000000, 4294967295, 4294967295);
+    position_line(-1000000, 1000000, 1000000, 1, 2147483648, 0);
+    refused_positions();
+}
+
+// Each limit passed by one, and by as much as its type allows.
+fn refused_positions() {
+    position_line(-1000001, 0, 1, 1, 0, 0);
+    position_line(1000001, 0, 1, 1, 0, 0);
+    position_line(0, -1000001, 1, 1, 0, 0);
+    position_line(0, 1000001, 1, 1, 0, 0);
+    position_line(0, 0, 0, 1, 0, 0);
+    position_line(0, 0, 1, 0, 0, 0);
+    position_line(0, 0, 1000001, 1, 0, 0);
+    position_line(0, 0, 1, 1000001, 0, 0);
+    position_line(-2147483648, 0, 1, 1, 0, 0);
+    position_line(0, 2147483647, 1, 1, 0, 0);
+    position_line(0, 0, 4294967295, 1, 0, 0);
+    position_line(0, 0, 1, 4294967295, 0, 0);
+}
