@@ -52,20 +52,25 @@ fn file_line(length: u32, at: u32, word: u32, at_2: u32, word_2: u32) {
     answer_line(&file, length);
 }
 
-// One word changed, and nothing cut.
-fn change_line(at: u32, word: u32) {
-    file_line(96, at, word, at, word);
+// Cut to a length, with the number of the first record.
+fn cut_line(length: u32, first: u32) {
+    file_line(length, 0, first, 0, first);
 }
 
 fn lengths() {
-    file_line(96, 0, 1, 0, 1);
-    file_line(0, 0, 1, 0, 1);
-    file_line(31, 0, 1, 0, 1);
-    file_line(40, 0, 1, 0, 1);
-    file_line(95, 0, 1, 0, 1);
-    file_line(32, 0, 0, 0, 0);
-    file_line(32, 0, 1, 0, 1);
-    file_line(64, 0, 1, 0, 1);
+    cut_line(96, 1);
+    cut_line(0, 1);
+    cut_line(31, 1);
+    cut_line(40, 1);
+    cut_line(95, 1);
+    cut_line(32, 0);
+    cut_line(32, 1);
+    cut_line(64, 1);
+}
+
+// One word changed, and nothing cut.
+fn change_line(at: u32, word: u32) {
+    file_line(96, at, word, at, word);
 }
 
 // The first record, the level, and the bytes that must be zero.
@@ -115,21 +120,25 @@ fn counts() {
     change_line(60, 4294967295);
 }
 
+fn fault_line(at: u32, word: u32, at_2: u32, word_2: u32) {
+    file_line(96, at, word, at_2, word_2);
+}
+
 // Two faults, or a fault off the chain.
 fn two_faults() {
-    file_line(96, 4, 33, 8, 1);
-    file_line(96, 8, 1, 32, 5);
-    file_line(96, 4, 0, 0, 3);
-    file_line(96, 32, 5, 60, 4097);
-    file_line(96, 32, 5, 44, 0);
-    file_line(96, 44, 0, 60, 4097);
-    file_line(96, 64, 1, 60, 4097);
-    file_line(96, 64, 1, 92, 4097);
-    file_line(96, 32, 1, 76, 0);
-    file_line(96, 0, 2, 60, 4097);
-    file_line(96, 0, 2, 44, 0);
-    file_line(96, 32, 0, 92, 4097);
-    file_line(96, 64, 5, 92, 4097);
+    fault_line(4, 33, 8, 1);
+    fault_line(8, 1, 32, 5);
+    fault_line(4, 0, 0, 3);
+    fault_line(32, 5, 60, 4097);
+    fault_line(32, 5, 44, 0);
+    fault_line(44, 0, 60, 4097);
+    fault_line(64, 1, 60, 4097);
+    fault_line(64, 1, 92, 4097);
+    fault_line(32, 1, 76, 0);
+    fault_line(0, 2, 60, 4097);
+    fault_line(0, 2, 44, 0);
+    fault_line(32, 0, 92, 4097);
+    fault_line(64, 5, 92, 4097);
     file_line(40, 4, 33, 8, 1);
 }
 

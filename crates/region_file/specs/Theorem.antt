@@ -7,7 +7,7 @@ use lib.ListN.{length}
 use Rattle.region_file.specs.Fields.{record-at, first-record, level, reserved-zero, most-records}
 use Rattle.region_file.specs.Judge.{whole, nowhere, chain, judge-outcome}
 
--- a judgement that looks at more links comes to the same
+-- a chain of a whole file is judged the same, however many links beyond 2,048 the judgement would look at: it never runs out
 abbrev pub ChainsEnd : Type 0
 ChainsEnd = (limit : ℕ) (file : List ℕ) (links n : ℕ) → whole (length file) ≡ true → most-records ≤ links
     → chain limit file links nowhere n ≡ chain limit file most-records nowhere n
@@ -22,7 +22,7 @@ pub record SameOnChain (file other : List ℕ) (On : ℕ → Type 0) : Type 0 wh
   pub goes-on : (n : ℕ) → On n → (n ≡ 0 → ⊥) → On (record-at file n .next)
   pub records-same : (n : ℕ) → On n → (n ≡ 0 → ⊥) → record-at file n ≡ record-at other n
 
--- such files are judged the same, whatever else they hold
+-- files that agree on record 0 and on each record of the chain are judged the same, whatever else they hold
 abbrev pub OnlyTheChain : Type 1
 OnlyTheChain = (limit : ℕ) (file other : List ℕ) (On : ℕ → Type 0) → SameOnChain file other On → judge-outcome limit file ≡ judge-outcome limit other
 

@@ -16,14 +16,14 @@ abbrev pub AllDigits : List ℕ → Type 0
 AllDigits [] = Unit
 AllDigits (d ∷ ds) = ((48 ≤ d) × (d ≤ 57)) × AllDigits ds
 
--- for every word of 32 bits
+-- of every word of 32 bits: the text reads back as the number, it has digits only, and it is the shortest
 pub record Decimal : Type 0 where
   pub reads-back : (n : ℕ) → n < 2 ^ 32 → value 0 (decimal n) ≡ n
   pub all-digits : (n : ℕ) → AllDigits (decimal n)
   -- no zero leads, unless the number is 0
   pub no-zero-leads : (n : ℕ) → 0 < n → n < 2 ^ 32 → 48 < getD (decimal n) 0 0
 
--- whatever the cursors are
+-- pieces of a text, whatever the text, its cursors and its longest line
 pub record Joined : Type 1 where
   -- at any time: the pieces so far, and what is to come
   pub so-far : {C : Type 0} (to-come : C → List ℕ) (w : ℕ) (c e : C) (ps : List (List ℕ)) → Pieces to-come w c ps e → join ps ++ to-come e ≡ to-come c
