@@ -1,2 +1,3 @@
 pub mod Position
 pub mod Region
+pub mod Theorem
