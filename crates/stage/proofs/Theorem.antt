@@ -1,6 +1,6 @@
 -- What users rely on.
 -- Assumes nothing.
-use Prim.Native.Nat.{ℕ, suc, _*_, _^_, _≤_, _<_}
+use Prim.Native.Nat.{ℕ, suc, _*_, _^_, _<_}
 use native.Mathlib.Nat.{div-mul-le-self, div-lt-iff-lt-mul, mul-lt-mul-of-pos-right, mul-comm, le-refl}
 use mathlib.Core.Path.{subst}
 use lib.Dec.{lit<}
