@@ -41,6 +41,18 @@ module _ {A : Type 0} (after : Outcome A) (n : ℕ) (ts : List Test) {b : A} whe
   first-accepted true e = absurd (accepted-refused (sym e))
   first-accepted false e = (refl, e)
 
+-- every test of a list
+abbrev pub AllPass : List Test → Type 0
+AllPass [] = Unit
+AllPass (t ∷ ts) = (t .holds ≡ false) × AllPass ts
+
+pub all-pass : {A : Type 0} (after : Outcome A) (ts : List Test) {b : A} → first ts after ≡ accepted b → AllPass ts × (after ≡ accepted b)
+all-pass after [] e = (tt, sym (first-none after) ∙ e)
+all-pass after (t ∷ ts) e =
+    let p = first-accepted after (t .number) ts (t .holds) e in
+    let q = all-pass after ts (p .1) in
+    ((p .0, q .0), q .1)
+
 -- tests decide before anything else as they do by themselves
 module _ {A B : Type 0} (a : A) (after : Outcome B) where
   pub refused-before : (ts : List Test) {k : ℕ} {vs : List ℕ} → first ts (accepted a) ≡ refused k vs → first ts after ≡ refused k vs

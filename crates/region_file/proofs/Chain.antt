@@ -1,22 +1,20 @@
 -- One link of the chain, by the cases of the code, and what an accepted link and an accepted file have.
 -- Assumes nothing.
-use mathlib.Core.Path.{_≡_, refl, sym, _∙_}
+use mathlib.Core.Path.{_≡_, refl, sym}
 use mathlib.Core.Bool.{Bool, true, false, cond, not, true≢false}
-use mathlib.Core.List.{List, [], _∷_}
+use mathlib.Core.List.{List}
 use mathlib.Core.Logic.{_⊎_, inl, inr}
 use Prim.Native.Nat.{ℕ, zero, suc, _%_, _/_, _≤_, _<_}
 use native.Mathlib.Nat.{lt-irrefl}
 use native.Mathlib.Omega.{arith}
 use lib.Dec.{eqb, leb, ltb}
-use lib.ListN.{length}
 use borrow.Author.Tests.{eq-eqb, ne-eqb, eqb-true, eqb-false, leb-false, ltb-false, not-false}
 use Rattle.refusal.specs.Outcome.{Outcome, accepted, refused, first}
-use Rattle.refusal.proofs.First.{first-none, first-accepted, accepted-refused, refused-before, passed-before}
-use Rattle.plan.specs.Pair.{unknown-level}
-use Rattle.stage.specs.Region.{within, outside}
+use Rattle.refusal.proofs.First.{accepted-refused, all-pass, refused-before, passed-before}
+use Rattle.stage.specs.Region.{within}
 use Rattle.stage.proofs.Limits.{both}
-use Rattle.region_file.specs.Fields.{record-at, first-record, level, reserved-zero, records, most-records}
-use Rattle.region_file.specs.Judge.{whole, reserved-used, returning, too-many, link-tests, link-outcome, nowhere, also, chain, judge-outcome}
+use Rattle.region_file.specs.Fields.{record-at, first-record, records, most-records}
+use Rattle.region_file.specs.Judge.{whole, head-tests, link-tests, link-outcome, nowhere, also, chain, judge-outcome}
 
 -- a record that passes the tests of a link
 pub record Passed (limit : ℕ) (file : List ℕ) (seen : Bool) (n : ℕ) : Type 0 where
@@ -29,20 +27,12 @@ module _ {A : Type 0} {after : Outcome A} {b : A} (limit : ℕ) (file : List ℕ
   pub passed : first (link-tests limit file seen n) after ≡ accepted b → Passed limit file seen n × (after ≡ accepted b)
   passed e =
       let r = record-at file n in
-      let last = too-many limit r ∷ [] in
-      let later = outside (r .region) ∷ last in
-      let one = first-accepted after 13 (returning seen ∷ later) (leb (records file) n) e in
-      let two = first-accepted after 14 later seen (one .1) in
-      let three = first-accepted after 10 last (not (within (r .region))) (two .1) in
-      let four = first-accepted after 15 [] (ltb limit (r .count)) (three .1) in (
-        record {
-          here = leb-false (records file) n (one .0);
-          fresh = two .0;
-          inside = not-false _ (three .0);
-          few = ltb-false limit (r .count)
-              (four .0);
-        },
-        sym (first-none after) ∙ four .1,
+      let p = all-pass after (link-tests limit file seen n) e in
+      let here : leb (records file) n ≡ false = search p in
+      let inside : not (within (r .region)) ≡ false = search p in
+      let few : ltb limit (r .count) ≡ false = search p in (
+        record { here = leb-false (records file) n here; fresh = search p; inside = not-false _ inside; few = ltb-false limit (r .count) few },
+        p .1,
       )
 
 module _ (limit : ℕ) (file : List ℕ) where
@@ -111,10 +101,4 @@ whole-few bytes e = let m = whole-has bytes e .most in omega (arith, m)
 pub judged-chain : (limit : ℕ) (file : List ℕ) → judge-outcome limit file ≡ accepted tt → chain limit file most-records nowhere (first-record file)
     ≡ accepted tt
 unfolding judge-outcome
-judged-chain limit file e =
-    let after = chain limit file most-records nowhere (first-record file) in
-    let last = reserved-used file ∷ [] in
-    let one = first-accepted after 11 (unknown-level (level file) ∷ last) (not (whole (length file))) e in
-    let two = first-accepted after 2 last (unknown-level (level file) .holds) (one .1) in
-    let three = first-accepted after 12 [] (not (reserved-zero file)) (two .1) in
-    sym (first-none after) ∙ three .1
+judged-chain limit file e = all-pass (chain limit file most-records nowhere (first-record file)) (head-tests file) e .1

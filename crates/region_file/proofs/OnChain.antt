@@ -1,22 +1,16 @@
 -- Records off the chain are not looked at.
 -- Assumes nothing.
-use mathlib.Core.Path.{_≡_, refl, ap, ap₂, _∙_}
+use mathlib.Core.Path.{_≡_, refl, ap, _∙_}
 use mathlib.Core.Bool.{Bool, true, false, cond}
-use mathlib.Core.List.{List, [], _∷_}
+use mathlib.Core.List.{List}
 use Prim.Native.Nat.{ℕ, zero, suc, _/_}
-use lib.Dec.{eqb, leb}
+use lib.Dec.{eqb}
 use borrow.Author.Tests.{eqb-false}
 use Rattle.refusal.specs.Outcome.{accepted, Test, first}
-use Rattle.stage.specs.Region.{outside}
 use Rattle.region_file.specs.declared.fields.Record.{Record}
 use Rattle.region_file.specs.Fields.{record-at, first-record, records, most-records}
-use Rattle.region_file.specs.Judge.{returning, too-many, also, link-tests, head-tests, nowhere, chain, judge-outcome}
+use Rattle.region_file.specs.Judge.{also, link-tests, head-tests, nowhere, chain, judge-outcome}
 use Rattle.region_file.specs.Theorem.{SameOnChain, OnlyTheChain}
-
--- tests over a number of records and a record
-abbrev tests : ℕ → ℕ → Bool → ℕ → Record → List Test
-tests limit count seen n r =
-    record { number = 13; holds = leb count n } ∷ returning seen ∷ outside (r .region) ∷ too-many limit r ∷ []
 
 module _ (limit : ℕ) (file other : List ℕ) (On : ℕ → Type 0) (same : SameOnChain file other On) where
   counts : records file ≡ records other
@@ -33,8 +27,10 @@ module _ (limit : ℕ) (file other : List ℕ) (On : ℕ → Type 0) (same : Sam
       go true e more = refl
       go false e more =
           let ne = eqb-false n 0 e in
+          let count = counts in
           let r = same .records-same n o ne in
-          ap₂ (λ (k : ℕ) (q : Record). first (tests limit k (v n) n q) (chain limit file links (also n v) (record-at file n .next))) counts r
+          let tests : link-tests limit file (v n) n ≡ link-tests limit other (v n) n = cc in
+          ap (λ (ts : List Test). first ts (chain limit file links (also n v) (record-at file n .next))) tests
           ∙ ap (first (link-tests limit other (v n) n)) (more (also n v) (record-at file n .next) (same .goes-on n o ne)
           ∙ ap (λ (q : Record). chain limit other links (also n v) (q .next)) r)
 
