@@ -1,14 +1,14 @@
 -- One link of the chain, by the cases of the code, and what an accepted link and an accepted file have.
 -- Assumes nothing.
 use mathlib.Core.Path.{_≡_, refl, sym}
-use mathlib.Core.Bool.{Bool, true, false, cond, not, true≢false}
+use mathlib.Core.Bool.{Bool, true, false, cond, not}
 use mathlib.Core.List.{List}
 use mathlib.Core.Logic.{_⊎_, inl, inr}
 use Prim.Native.Nat.{ℕ, zero, suc, _%_, _/_, _≤_, _<_}
 use native.Mathlib.Nat.{lt-irrefl}
 use native.Mathlib.Omega.{arith}
 use lib.Dec.{eqb, leb, ltb}
-use borrow.Author.Tests.{eq-eqb, ne-eqb, eqb-true, eqb-false, leb-false, ltb-false, not-false}
+use borrow.Author.Tests.{eq-eqb, ne-eqb, eqb-true, eqb-false, leb-false, ltb-false, not-true, not-false}
 use Rattle.refusal.specs.Outcome.{Outcome, accepted, refused, first}
 use Rattle.refusal.proofs.First.{accepted-refused, all-pass, refused-before, passed-before}
 use Rattle.stage.specs.Region.{within}
@@ -82,23 +82,19 @@ pub record Whole (bytes : ℕ) : Type 0 where
   pub most : bytes ≤ 65536
   pub even : bytes % 32 ≡ 0
 
-not-so : (b : Bool) → not b ≡ true → b ≡ false
-not-so false e = refl
-not-so true e = absurd (true≢false (sym e))
-
 pub whole-has : (bytes : ℕ) → whole bytes ≡ true → Whole bytes
 unfolding whole
 whole-has bytes e =
     let one = both _ _ e in
     let two = both _ _ (one .1) in
-    let some = eqb-false bytes 0 (not-so _ (one .0)) in
-    record { some = omega (arith, some); most = ltb-false 65536 bytes (not-so _ (two .0)); even = eqb-true (bytes % 32) 0 (two .1) }
+    let some = eqb-false bytes 0 (not-true _ (one .0)) in
+    record { some = omega (arith, some); most = ltb-false 65536 bytes (not-true _ (two .0)); even = eqb-true (bytes % 32) 0 (two .1) }
 
 pub whole-few : (bytes : ℕ) → whole bytes ≡ true → bytes / 32 ≤ most-records
 whole-few bytes e = let m = whole-has bytes e .most in omega (arith, m)
 
 -- what an accepted file has
-pub judged-chain : (limit : ℕ) (file : List ℕ) → judge-outcome limit file ≡ accepted tt → chain limit file most-records nowhere (first-record file)
-    ≡ accepted tt
+pub judged-chain : (limit : ℕ) (file : List ℕ) → judge-outcome limit file ≡ accepted tt
+    → chain limit file most-records nowhere (first-record file) ≡ accepted tt
 unfolding judge-outcome
 judged-chain limit file e = all-pass (chain limit file most-records nowhere (first-record file)) (head-tests file) e .1

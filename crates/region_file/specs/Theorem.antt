@@ -7,7 +7,7 @@ use lib.ListN.{length}
 use Rattle.region_file.specs.Fields.{record-at, first-record, level, reserved-zero, most-records}
 use Rattle.region_file.specs.Judge.{whole, nowhere, chain, judge-outcome}
 
--- a chain of a whole file is judged the same, however many links beyond 2,048 the judgement would look at: it never runs out
+-- a chain of a whole file is judged the same, however many links from 2,048 on the judgement looks at
 abbrev pub ChainsEnd : Type 0
 ChainsEnd = (limit : ℕ) (file : List ℕ) (links n : ℕ) → whole (length file) ≡ true → most-records ≤ links
     → chain limit file links nowhere n ≡ chain limit file most-records nowhere n

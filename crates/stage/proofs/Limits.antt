@@ -8,7 +8,7 @@ use lib.IntN.{ℤ}
 use mir.Syntax.{w32}
 use mir.Val.{SFits, ofZ, toZ}
 use mir.ValLaws.{toZ-ofZ}
-use borrow.Author.Tests.{ltb-false}
+use borrow.Author.Tests.{ltb-false, not-true}
 use Rattle.stage.specs.declared.regions.Region.{Region}
 use Rattle.stage.specs.Position.{edge-within, extent-within, position, largest-extent}
 use Rattle.stage.specs.Region.{within}
@@ -23,8 +23,8 @@ pub edge-read : (e : ℤ) → SFits w32 e → edge-within e ≡ true → edge-wi
 edge-read e f p = ap edge-within (toZ-ofZ w32 e f) ∙ p
 
 -- a position, as the machine hands it on, of an edge that the machine has read
-pub position-told : {z : ℤ} (e : ℤ) (x w : ℕ) → SFits w32 e → SFits w32 z → z ≡ position (toZ w32 (ofZ w32 e)) x w → toZ w32 (ofZ w32 z)
-    ≡ position e x w
+pub position-told : {z : ℤ} (e : ℤ) (x w : ℕ) → SFits w32 e → SFits w32 z → z ≡ position (toZ w32 (ofZ w32 e)) x w
+    → toZ w32 (ofZ w32 z) ≡ position e x w
 position-told {z} e x w f g p = toZ-ofZ w32 z g ∙ p ∙ ap (λ (y : ℤ). position y x w) (toZ-ofZ w32 e f)
 
 -- a conjunction holds of each part
@@ -33,11 +33,7 @@ both true b e = (refl, e)
 both false b e = absurd (true≢false (sym e))
 
 extent-most : (x : ℕ) → extent-within x ≡ true → x ≤ largest-extent
-extent-most x e = go (ltb largest-extent x) refl (both (not (ltb x 1)) (not (ltb largest-extent x)) e .1)
-  where
-    go : (b : Bool) → ltb largest-extent x ≡ b → not b ≡ true → x ≤ largest-extent
-    go false p q = ltb-false largest-extent x p
-    go true p q = absurd (true≢false (sym q))
+extent-most x e = ltb-false largest-extent x (not-true _ (both (not (ltb x 1)) (not (ltb largest-extent x)) e .1))
 
 pub record Within (r : Region) : Type 0 where
   pub left : edge-within (r .left) ≡ true

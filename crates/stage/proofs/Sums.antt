@@ -1,4 +1,4 @@
--- Offsets, signed sums, and what a region within its limits has.
+-- Offsets, and signed sums as the machine makes them.
 -- Assumes nothing.
 use mathlib.Core.Path.{_≡_, sym, ap, _∙_, subst}
 use Prim.Native.Nat.{ℕ, suc, _+_, _-_, _*_, _/_, _^_, _≤_, _<_}
