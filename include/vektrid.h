@@ -1,0 +1,131 @@
+/* Vektrid: the visit planner, as C calls of the proved library (crates/exports).
+ *
+ * Every call answers any numbers; none traps, prints or keeps anything. An answer of type uint32_t is 0, or the number of a refusal in
+ * document 01's table (enum vektrid_refusal); a refused call leaves every lent word and buffer as it was, but for the values that
+ * refusal 3 gives. What the proofs ask of the caller, since C cannot say it: no pointer is null, each buffer has the length given
+ * beside it, and what one call writes does not overlap anything else that is lent to that call.
+ *
+ * A pair (two generator matrices) is 64 words: the 32 columns of X, then those of Y; column c belongs to index bit c, and the top bit of a
+ * word is row 0. shift_x and shift_y are the scramble (a digital shift), one word for each axis.
+ *
+ * Link target/staticlib/libexports.a or target/libvektrid.so; tools/archive makes both.
+ */
+#ifndef VEKTRID_H
+#define VEKTRID_H
+
+#include <stddef.h>
+#include <stdint.h>
+
+#ifdef __cplusplus
+extern "C" {
+#endif
+
+enum vektrid_refusal {
+    VEKTRID_ACCEPTED = 0,
+    VEKTRID_WORD_COUNT = 1,      /* a pair is not 64 words */
+    VEKTRID_LEVEL = 2,           /* a level is not 1 to 32 */
+    VEKTRID_NOT_NET = 3,         /* not a net: the shape (m, a), and j, the least index above 0 in the cell of index 0 */
+    VEKTRID_SIZE = 4,            /* m is above the level */
+    VEKTRID_SHAPE = 5,           /* a is above m */
+    VEKTRID_CELL = 6,            /* column >= 2^a, or row >= 2^(m-a) */
+    VEKTRID_BLOCK = 7,           /* block >= 2^(32-m) */
+    VEKTRID_BUFFER_LENGTHS = 8,  /* two buffers differ in length */
+    VEKTRID_INDEX_RANGE = 9,     /* start + count is above 2^32 */
+    VEKTRID_REGION = 10,         /* an edge or an extent of a region is outside its limits */
+    VEKTRID_FILE_LENGTH = 11,    /* a file is empty, over 65,536 bytes, or not whole records */
+    VEKTRID_HEADER = 12,         /* bytes 8 to 31 of record 0 are not all zero */
+    VEKTRID_MISSING_RECORD = 13, /* the chain names a record that the file lacks */
+    VEKTRID_CHAIN_RETURNS = 14,  /* the chain returns to a record */
+    VEKTRID_VISIT_COUNT = 15     /* a record has more than 4,096 visits */
+};
+
+/* ---- pairs */
+
+/* Writes the standard pair (identity, and Pascal's triangle modulo 2) into 64 words; 1 for another number of words. */
+uint32_t vektrid_standard_pair(uint32_t *words, size_t count);
+
+/* Whether a pair passes a level: 0, or 1, 2 or 3; 3 writes the first bad shape to *m and *a and its least index to *j. */
+uint32_t vektrid_check(const uint32_t *words, size_t count, uint32_t level, uint32_t *m, uint32_t *a, uint32_t *j);
+
+/* ---- points */
+
+/* The point of an index, for any pair: 0 or 1. */
+uint32_t vektrid_point(const uint32_t *words, size_t count, uint32_t shift_x, uint32_t shift_y, uint32_t index, uint32_t *x, uint32_t *y);
+
+/* The point of an index of the standard pair, by the fast way. */
+void vektrid_standard_point(uint32_t shift_x, uint32_t shift_y, uint32_t index, uint32_t *x, uint32_t *y);
+
+/* The points of the indexes from start on, into every place of two buffers of equal length: 0, 1, 8 or 9. */
+uint32_t vektrid_fill(const uint32_t *words, size_t count, uint32_t shift_x, uint32_t shift_y, uint32_t start, uint32_t *xs, size_t xs_count,
+                      uint32_t *ys, size_t ys_count);
+
+/* ---- walks: a walk is the next index and how many visits are left, both the caller's to keep */
+
+/* A walk over count visits from start on: 0 or 9. */
+uint32_t vektrid_walk_open(uint32_t start, uint64_t count, uint32_t *next, uint64_t *left);
+
+/* A step: 0 or 1. *given is 1 where there was a visit, its index and point then in *index, *x and *y; 0 where the walk has ended, and those
+ * three keep what they held. *next and *left become the walk after the step. */
+uint32_t vektrid_walk_step(const uint32_t *words, size_t count, uint32_t shift_x, uint32_t shift_y, uint32_t *next, uint64_t *left,
+                           uint32_t *given, uint32_t *index, uint32_t *x, uint32_t *y);
+
+/* The same with the point as two singles. */
+uint32_t vektrid_walk_step_singles(const uint32_t *words, size_t count, uint32_t shift_x, uint32_t shift_y, uint32_t *next, uint64_t *left,
+                                   uint32_t *given, uint32_t *index, float *x, float *y);
+
+/* ---- cells */
+
+/* The one index of a block that lies in a cell of the shape (m, a), to *index: 0, 1, 2, 4, 5, 6, 7 or 3; 3 writes the shape's least index to *j. */
+uint32_t vektrid_query(const uint32_t *words, size_t count, uint32_t shift_x, uint32_t shift_y, uint32_t level, uint32_t m, uint32_t a,
+                       uint32_t column, uint32_t row, uint32_t block, uint32_t *index, uint32_t *j);
+
+/* ---- unit numbers */
+
+/* A word divided by 2^32, exactly. */
+double vektrid_double(uint32_t word);
+
+/* The largest single not above a word divided by 2^32. */
+float vektrid_single(uint32_t word);
+
+/* The point of an index as two singles, for any pair: 0 or 1. */
+uint32_t vektrid_point_singles(const uint32_t *words, size_t count, uint32_t shift_x, uint32_t shift_y, uint32_t index, float *x, float *y);
+
+/* ---- the stage */
+
+/* Where the point with coordinate words x and y lies in a region, in micrometres: 0 or 10. */
+uint32_t vektrid_position(int32_t left, int32_t top, uint32_t width, uint32_t height, uint32_t x, uint32_t y, int32_t *at_x, int32_t *at_y);
+
+/* ---- region files */
+
+/* A place among the visits of a file, and a cursor in its listing. Words that a caller may copy and keep; any content is answered. */
+typedef struct vektrid_place {
+    uint32_t words[11];
+} vektrid_place;
+
+typedef struct vektrid_cursor {
+    uint32_t words[13];
+} vektrid_cursor;
+
+/* Judges a whole file: 0, or 11, 2, 12, 13, 14, 10 or 15. */
+uint32_t vektrid_judge(const uint8_t *file, size_t size);
+
+/* The place before the first visit of a file, or the refusal of the file as vektrid_judge gives it. */
+uint32_t vektrid_visits_open(const uint8_t *file, size_t size, vektrid_place *place);
+
+/* The next visit: *given is 1 and the record's number, the index in it and the position are written, or *given is 0 and they keep what they
+ * held. *place moves past the visit. */
+void vektrid_visits_step(const uint8_t *file, size_t size, vektrid_place *place, uint32_t *given, uint32_t *record, uint32_t *index,
+                         int32_t *at_x, int32_t *at_y);
+
+/* The start of a file's listing. The listing of a refused file is the one line `refused`, a space and the number. */
+void vektrid_listing_open(const uint8_t *file, size_t size, vektrid_cursor *cursor);
+
+/* The next piece of a listing: writes whole lines while the longest line, 46 bytes, has room, returns how many bytes it wrote, and moves
+ * *cursor past them. 0 bytes into a buffer of 46 or more: the listing is whole. Bytes of the buffer past the piece keep their content. */
+size_t vektrid_listing_page(const uint8_t *file, size_t size, vektrid_cursor *cursor, uint8_t *out, size_t room);
+
+#ifdef __cplusplus
+}
+#endif
+
+#endif
