@@ -1,0 +1,16 @@
+-- `plan::fills::turned` meets its contract: a number other than 0 has a lowest bit. Assumes nothing.
+use mathlib.Core.Path.{refl}
+use lib.Count.{trailing-le}
+use Rattle.plan.proofs.Groups.{turns-below}
+use native.Mathlib.Omega.{arith}
+use Rattle.plan.proofs.fills.turned.Statement.{statement}
+use Rattle.plan.proofs.fills.turned.Tie as tie
+
+cast-result : tie.Need-cast-result
+cast-result c = let l = trailing-le 32 (c .args .at) in record { fits = omega arith }
+
+returns : tie.Need-returns
+returns c = (refl, turns-below (c .args .at) (c .pre) (c .fits .at .fits))
+
+pub turned-spec : {M : Type 1} → statement M
+turned-spec = tie.close (tie.spec cast-result returns)
