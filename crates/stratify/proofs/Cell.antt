@@ -10,11 +10,11 @@ use Rattle.linear.specs.Unique.{Only}
 use Rattle.net.specs.Sequence.{Fits, VisitIn}
 use Rattle.net.specs.Finish.{plain, shifted}
 use Rattle.net.specs.Shape.{Shape}
-use Rattle.net.specs.Elimination.{interval, solve, plain-interval, basis-index}
+use Rattle.net.specs.Elimination.{BasisEntry, interval, solve, plain-interval, basis-index}
 use Rattle.net.proofs.Interval.{plain-fits, plain-interval-lt, interval-additive}
 use Rattle.net.proofs.Finish.{shift-lawful, finished-fits}
 use Rattle.plan.specs.Pair.{pair}
-use Rattle.stratify.specs.Basis.{entries, Sweeps, Basis}
+use Rattle.net.specs.Answers.{Solved}
 
 module _ {x y : List ℕ} {m a : ℕ} (shape : Shape (pair x y) m a) (s t : ℕ) (hs : s < 2 ^ 32) (ht : t < 2 ^ 32)
     (k c r : ℕ) (hc : c < 2 ^ a) (hr : r < 2 ^ (m - a)) where
@@ -24,12 +24,10 @@ module _ {x y : List ℕ} {m a : ℕ} (shape : Shape (pair x y) m a) (s t : ℕ)
   pub cell-lt : plain-interval (shifted (pair x y) s t) m a k c r < 2 ^ 32
   cell-lt = lt-of-lt-of-le (plain-interval-lt one-lt-two fits m a (shape .wide) (shape .fits) k c r hc hr) (pow-mono (shape .fits))
 
-  pub answer : (words indexes : List ℕ) (cell word index : ℕ) → Basis (pair x y) m a words indexes
-      → cell ≡ plain-interval (shifted (pair x y) s t) m a k c r → Sweeps words indexes m cell 0 word index
+  pub answer : (fs : List BasisEntry) (cell index : ℕ) → Solved (pair x y) m a fs
+      → cell ≡ plain-interval (shifted (pair x y) s t) m a k c r → index ≡ solve 2 (interval (plain (pair x y)) m a) fs cell
       → Only (VisitIn (shifted (pair x y) s t) m a k c r) (k * 2 ^ m + index)
   unfolding basis-index
-  answer words indexes cell word index B e swept =
-      let L = interval (plain (pair x y)) m a in
-      let p = swept L (interval-additive shape) (B .images) .moved ∙ zero-plus one-lt-two (solve 2 L (entries words indexes m) cell)
-      ∙ ap (solve 2 L (entries words indexes m)) e in
-      subst (λ (i : ℕ). Only (VisitIn (shifted (pair x y) s t) m a k c r) (k * 2 ^ m + i)) (sym p) (B .answers .answers-shifted s t hs ht k c r hc hr)
+  answer fs cell index solved e is =
+      subst (λ (i : ℕ). Only (VisitIn (shifted (pair x y) s t) m a k c r) (k * 2 ^ m + i))
+      (sym (is ∙ ap (solve 2 (interval (plain (pair x y)) m a) fs) e)) (solved .answers-shifted s t hs ht k c r hc hr)

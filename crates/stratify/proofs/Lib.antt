@@ -1,4 +1,5 @@
 pub mod Reduction
+pub mod Clearing
 pub mod Refinement
 pub mod Cell
 pub mod Tests

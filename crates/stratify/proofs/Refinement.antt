@@ -7,23 +7,26 @@ use native.Mathlib.Nat.{le-refl}
 use native.Mathlib.Numerals.{add-one}
 use native.Mathlib.Omega.{arith}
 use lib.Count.{trailingZeros}
-use lib.ListN.{length, getD, set, length-set}
+use lib.ListN.{length, getD, set, replicate, length-set}
 use lib.Seq.{getD-set-same, getD-set-other}
+use Rattle.digits.specs.Digits.{plus, minus}
+use Rattle.digits.proofs.Arithmetic.{zero-plus}
+use Rattle.digits.proofs.Two.{one-lt-two}
 use Rattle.linear.proofs.Prime.{two}
 use Rattle.linear.proofs.Cases.{lt-or-ge}
 use Rattle.net.specs.Finish.{plain}
 use Rattle.net.specs.Shape.{Shape}
 use Rattle.net.specs.Sequence.{Least}
-use Rattle.net.specs.Elimination.{Additive, Choice, BasisEntry, serial, interval, reduce, new-entry}
+use Rattle.net.specs.Elimination.{Additive, Choice, BasisEntry, serial, interval, reduce, solve, new-entry}
 use Rattle.net.specs.Elimination.{Outcome, kernel, basis, eliminate, eliminate-shape}
 use Rattle.net.specs.Answers.{Eliminated}
-use Rattle.net.proofs.Interval.{interval-pow}
+use Rattle.net.proofs.Interval.{interval-pow, interval-additive}
 use Rattle.net.proofs.Elimination.{eliminate-ends, eliminate-stops, eliminate-goes-on}
 use Rattle.net.proofs.Basis.{eliminated}
 use Rattle.net.proofs.Two.{trailing-zeros}
 use Rattle.plan.specs.Pair.{pair}
-use Rattle.stratify.specs.Basis.{entries, Images, Sweeps, Eliminates}
-use Rattle.stratify.proofs.Reduction.{reduced, imaged}
+use Rattle.stratify.specs.Basis.{entries, Images, Sweeps, added, Clears, Eliminates}
+use Rattle.stratify.proofs.Reduction.{sweep-none, sweep-more, reduced, imaged}
 
 -- the lowest bit of a word
 abbrev pub choice : Choice 2 32
@@ -47,6 +50,22 @@ entries-set words indexes c word index (suc n) h =
     (ap₂ (λ (i w : ℕ). record { index = i; pivot = trailingZeros 32 w; inverse = 1 })
     (getD-set-other indexes c n index 0 other) (getD-set-other words c n word 0 other))
     (entries-set words indexes c word index n (omega arith))
+
+-- nor what was swept by them
+sweeps-set : (words indexes : List ℕ) (c word index v k x y : ℕ) → Sweeps words indexes c v k x y
+    → Sweeps (set words c word) (set indexes c index) c v k x y
+sweeps-set words indexes c word index v k x y old L A images =
+    let same = sym (entries-set words indexes c word index c (le-refl c)) in
+    let s = old L A before in
+    record {
+      moved = s .moved ∙ ap (λ (fs : List BasisEntry). plus 2 k (solve 2 L fs v)) same;
+      rest = s .rest ∙ ap (λ (fs : List BasisEntry). minus 2 v (L (solve 2 L fs v))) same;
+    }
+  where
+    before : Images L words indexes c
+    before t h =
+        let other : t ≢ c = omega arith in
+        sym (getD-set-other words c t word 0 other) ∙ images t h ∙ ap L (getD-set-other indexes c t index 0 other)
 
 -- ---- the loop
 
@@ -128,6 +147,74 @@ module _ {L : ℕ → ℕ} (A : Additive 2 L) {m : ℕ} {words indexes : List �
           (ap (trailingZeros 32) (here-word ∙ sym image-is)))
           (entries-set words indexes c word index c (le-refl c))
 
+-- ---- the code's arrays: each column to come, and the word asked for, is swept by the entries so far
+
+pub record Pending (L : ℕ → ℕ) (m asked c : ℕ) (rest moved : List ℕ) : Type 0 where
+  pub words : List ℕ
+  pub indexes : List ℕ
+  pub going : Going L m words indexes c
+  pub columns : (d : ℕ) → c ≤ d → d < m → Sweeps words indexes c (L (2 ^ d)) (2 ^ d) (getD rest d 0) (getD moved d 0)
+  pub asked-for : Sweeps words indexes c asked 0 (getD rest m 0) (getD moved m 0)
+
+-- the arrays as the loop begins: the columns, and then the word asked for
+pub record Begun (L : ℕ → ℕ) (m asked : ℕ) (rest moved : List ℕ) : Type 0 where
+  pub columns : (d : ℕ) → d < m → (getD rest d 0 ≡ L (2 ^ d)) × (getD moved d 0 ≡ 2 ^ d)
+  pub asked-for : getD rest m 0 ≡ asked
+  pub nothing : getD moved m 0 ≡ 0
+
+pub begun : {L : ℕ → ℕ} {m : ℕ} (asked : ℕ) (rest moved : List ℕ) → ((d : ℕ) → d < m → (getD rest d 0 ≡ L (2 ^ d)) × (getD moved d 0 ≡ 2 ^ d))
+    → m < length rest → m < length moved → Begun L m asked (set rest m asked) (set moved m 0)
+begun {m = m} asked rest moved are h k = record {
+  columns = λ d l. let other : d ≢ m = omega arith in
+      (getD-set-other rest m d asked 0 other ∙ are d l .0, getD-set-other moved m d 0 0 other ∙ are d l .1);
+  asked-for = getD-set-same rest m asked 0 h;
+  nothing = getD-set-same moved m 0 0 k;
+}
+
+pub pending-none : {L : ℕ → ℕ} {m asked : ℕ} {rest moved : List ℕ} → Begun L m asked rest moved → Pending L m asked 0 rest moved
+pending-none {L} {m} {asked} {rest} {moved} b = record {
+  words = replicate 32 0;
+  indexes = replicate 32 0;
+  going = going-none L m (replicate 32 0) (replicate 32 0) refl refl;
+  columns = λ d low h. start (L (2 ^ d)) (2 ^ d) (getD rest d 0) (getD moved d 0) (b .columns d h .0) (b .columns d h .1);
+  asked-for = start asked 0 (getD rest m 0) (getD moved m 0) (b .asked-for) (b .nothing);
+}
+  where
+    start : (v k word index : ℕ) → word ≡ v → index ≡ k → Sweeps (replicate 32 0) (replicate 32 0) 0 v k word index
+    start v k word index e f = rw e (rw f (sweep-none (replicate 32 0) (replicate 32 0) v k))
+
+module _ {L : ℕ → ℕ} (A : Additive 2 L) {m asked c : ℕ} {rest moved : List ℕ} (now : Pending L m asked c rest moved) (inside : c < m) where
+  here : Sweeps (now .words) (now .indexes) c (L (2 ^ c)) (2 ^ c) (getD rest c 0) (getD moved c 0)
+  here = now .columns c (le-refl c) inside
+
+  pub pending-kernel : getD rest c 0 ≡ 0 → eliminate 2 L choice m 0 [] ≡ kernel (getD moved c 0)
+  pending-kernel = going-kernel A (now .going) inside (getD rest c 0) (getD moved c 0) here
+
+  -- a word that is cleared is swept by one entry more
+  further : (v k x y x′ y′ : ℕ) → Sweeps (now .words) (now .indexes) c v k x y
+      → x′ ≡ added (getD rest c 0) x (getD rest c 0) x → y′ ≡ added (getD rest c 0) x (getD moved c 0) y → c < 32
+      → Sweeps (set (now .words) c (getD rest c 0)) (set (now .indexes) c (getD moved c 0)) (c + 1) v k x′ y′
+  further v k x y x′ y′ old e f low =
+      let words = set (now .words) c (getD rest c 0) in
+      let indexes = set (now .indexes) c (getD moved c 0) in
+      let w : getD words c 0 ≡ getD rest c 0 = getD-set-same (now .words) c (getD rest c 0) 0 (omega (arith, now .going .long-words)) in
+      let i : getD indexes c 0 ≡ getD moved c 0 = getD-set-same (now .indexes) c (getD moved c 0) 0 (omega (arith, now .going .long-indexes)) in
+      rw e (rw f (subst (λ (z : ℕ). Sweeps words indexes (c + 1) v k (added z x z x) (added z x (getD moved c 0) y)) w
+      (subst (λ (z : ℕ). Sweeps words indexes (c + 1) v k (added (getD words c 0) x (getD words c 0) x) (added (getD words c 0) x z y)) i
+      (sweep-more words indexes v k c x y (sweeps-set (now .words) (now .indexes) c (getD rest c 0) (getD moved c 0) v k x y old)))))
+
+  pub pending-more : (rest′ moved′ : List ℕ) → getD rest c 0 ≢ 0 → Clears (getD rest c 0) (getD moved c 0) c (m + 1) rest moved rest′ moved′
+      → c < 32 → Pending L m asked (c + 1) rest′ moved′
+  pending-more rest′ moved′ ne clears low = record {
+    words = set (now .words) c (getD rest c 0);
+    indexes = set (now .indexes) c (getD moved c 0);
+    going = going-more A (now .going) inside (getD rest c 0) (getD moved c 0) here ne low;
+    columns = λ d h l. further (L (2 ^ d)) (2 ^ d) (getD rest d 0) (getD moved d 0) (getD rest′ d 0) (getD moved′ d 0)
+        (now .columns d (omega arith) l) (clears .word d (omega arith) (omega arith)) (clears .index d (omega arith) (omega arith)) low;
+    asked-for = further asked 0 (getD rest m 0) (getD moved m 0) (getD rest′ m 0) (getD moved′ m 0)
+        (now .asked-for) (clears .word m (omega arith) (omega arith)) (clears .index m (omega arith) (omega arith)) low;
+  }
+
 -- ---- what the code hands back
 
 module _ {x y : List ℕ} {m a : ℕ} (shape : Shape (pair x y) m a) where
@@ -138,21 +225,24 @@ module _ {x y : List ℕ} {m a : ℕ} (shape : Shape (pair x y) m a) where
   unfolding eliminate-shape
   meant o e = subst (Eliminated (pair x y) m a) e (eliminated shape two choice)
 
-  pub eliminates-kernel : (words indexes : List ℕ) (j : ℕ) → eliminate 2 L choice m 0 [] ≡ kernel j → Eliminates (pair x y) m a j words indexes
-  eliminates-kernel words indexes j e =
+  pub eliminates-kernel : (asked index j : ℕ) → eliminate 2 L choice m 0 [] ≡ kernel j → Eliminates (pair x y) m a asked j index
+  eliminates-kernel asked index j e =
       let least : Least (plain (pair x y)) m a j = meant (kernel j) e .least in
       let positive = least .positive in
-      record { least = λ n. least; basis = λ z. absurd (omega arith) }
+      record { least = λ n. least; found = λ z. absurd (omega arith) }
 
-  pub eliminates-basis : (words indexes : List ℕ) (c : ℕ) → c ≡ m → Going L m words indexes c → Eliminates (pair x y) m a 0 words indexes
-  eliminates-basis words indexes c e going =
-      let done = rw e at going in
+  pub eliminates-basis : (asked c : ℕ) (rest moved : List ℕ) → c ≡ m → Pending L m asked c rest moved
+      → Eliminates (pair x y) m a asked 0 (getD moved m 0)
+  eliminates-basis asked c rest moved e now =
+      let done = rw e at now in
+      let fs = entries (done .words) (done .indexes) m in
       let none : m - m ≡ 0 = omega arith in
-      let whole = done .left ∙ ap (λ (n : ℕ). eliminate 2 L choice n m (entries words indexes m)) none in
+      let whole = done .going .left ∙ ap (λ (n : ℕ). eliminate 2 L choice n m fs) none in
       record {
         least = λ n. absurd (n refl);
-        basis = λ z. record {
-          answers = meant (basis (entries words indexes m)) (whole ∙ eliminate-ends L choice m (entries words indexes m));
-          images = done .images;
-        };
+        found = λ z. (
+          fs,
+          meant (basis fs) (whole ∙ eliminate-ends L choice m fs),
+          done .asked-for L (interval-additive shape) (done .going .images) .moved ∙ zero-plus one-lt-two (solve 2 L fs asked),
+        );
       }

@@ -1,11 +1,12 @@
 -- What the inner functions of the elimination promise one another: a basis as the code holds it, words beside the indexes whose
 -- images they are. No public contract cites this file.
 use mathlib.Core.Path.{_≡_}
-use mathlib.Core.Logic.{_≢_}
+use mathlib.Core.Logic.{_≢_, _⊎_}
 use mathlib.Core.List.{List, [], _∷_}
-use Prim.Native.Nat.{ℕ, zero, suc, _<_}
+use Prim.Native.Nat.{ℕ, zero, suc, _*_, _/_, _%_, _^_, _≤_, _<_}
+use lib.Bits.{bitXor}
 use lib.Count.{trailingZeros}
-use lib.ListN.{getD}
+use lib.ListN.{length, getD}
 use Rattle.digits.specs.Digits.{plus, minus}
 use Rattle.net.specs.Generators.{Generators}
 use Rattle.net.specs.Sequence.{Least}
@@ -31,12 +32,32 @@ pub record Swept (words indexes : List ℕ) (n v k word index : ℕ) (L : ℕ �
 abbrev pub Sweeps : List ℕ → List ℕ → ℕ → ℕ → ℕ → ℕ → ℕ → Type 0
 Sweeps words indexes n v k word index = (L : ℕ → ℕ) → Additive 2 L → Images L words indexes n → Swept words indexes n v k word index L
 
--- words and indexes that answer every query of the shape (m, a)
-pub record Basis (G : Generators) (m a : ℕ) (words indexes : List ℕ) : Type 0 where
-  pub answers : Solved G m a (entries words indexes m)
-  pub images : Images (interval (plain G) m a) words indexes m
+-- ---- the arrays of the code
 
--- what an elimination of the shape (m, a) hands back: `bad` is its j, or 0, and then there is a basis
-pub record Eliminates (G : Generators) (m a bad : ℕ) (words indexes : List ℕ) : Type 0 where
+-- both have 36 places
+abbrev pub Long : List ℕ → List ℕ → Type 0
+Long words indexes = (length words ≡ 36) × (length indexes ≡ 36)
+
+-- the first n words are the columns of the shape (m, a), as the intervals of the indexes that have one of them
+abbrev pub Columns : Generators → ℕ → ℕ → ℕ → List ℕ → List ℕ → Type 0
+Columns G m a n words indexes = (c : ℕ) → c < n → (getD words c 0 ≡ interval (plain G) m a (2 ^ c)) × (getD indexes c 0 ≡ 2 ^ c)
+
+-- a word w cleared at the lowest bit of the word `by`; what is added then, to a word or to its index, is x times the bit that w has there
+abbrev pub added : (by w x y : ℕ) → ℕ
+added by w x y = bitXor y (x * (w / 2 ^ trailingZeros 32 by % 2))
+
+-- from a place to another the words are cleared and their indexes moved along
+pub record Clears (by along from to : ℕ) (words indexes words′ indexes′ : List ℕ) : Type 0 where
+  pub word : (d : ℕ) → from ≤ d → d < to → getD words′ d 0 ≡ added by (getD words d 0) by (getD words d 0)
+  pub index : (d : ℕ) → from ≤ d → d < to → getD indexes′ d 0 ≡ added by (getD words d 0) along (getD indexes d 0)
+
+-- and outside of these places a list is as it was
+abbrev pub Stays : (from to : ℕ) → List ℕ → List ℕ → Type 0
+Stays from to old new = (d : ℕ) → (d < from) ⊎ (to ≤ d) → getD new d 0 ≡ getD old d 0
+
+-- ---- what an elimination of the shape (m, a) hands back
+
+-- `bad` is its j, or 0, and then there is a basis that answers every query, with the index for the word asked for
+pub record Eliminates (G : Generators) (m a asked bad index : ℕ) : Type 0 where
   pub least : bad ≢ 0 → Least (plain G) m a bad
-  pub basis : bad ≡ 0 → Basis G m a words indexes
+  pub found : bad ≡ 0 → (fs : List BasisEntry) × Solved G m a fs × (index ≡ solve 2 (interval (plain G) m a) fs asked)

@@ -2,19 +2,16 @@
 ghost use mathlib.Core.Path.{_≡_};
 ghost use Prim.Native.Nat.{_≤_};
 ghost use Rattle.digits.specs.Digits.{minus};
-ghost use Rattle.linear.specs.Unique.{Only};
 ghost use Rattle.net.specs.Generators.{Valid};
-ghost use Rattle.net.specs.Sequence.{top, VisitIn};
+ghost use Rattle.net.specs.Sequence.{top};
 ghost use Rattle.net.specs.Query.{locate};
 ghost use Rattle.net.specs.Elimination.{plain-interval};
 ghost use Rattle.word.specs.Coordinate.{shifted-coordinate};
 ghost use Rattle.plan.specs.Pair.{generators, finish, sequence, largest-level};
 ghost use Rattle.stratify.specs.Answers.{Cell, ShiftFits, of-located, of-location, query-outcome};
-ghost use Rattle.stratify.specs.Basis.{Basis};
 use crate::bits::join;
 use crate::bits::top;
 use crate::elimination::eliminate;
-use crate::elimination::sweep;
 use plan::INDEX_BITS;
 use plan::Index;
 use plan::Plan;
@@ -31,11 +28,14 @@ pub enum Located {
     Refused(Refusal),
 }
 
-// A column or row of t bits, exclusive or that of an index.
+// A column or row of t bits, exclusive or that of an index. Block 0 begins at index 0, whose product is 0.
 fn less(columns: Columns, index: Index, shift: u32, t: u32, asked: u32) -> u32
     requires { ⌜ t ≤ 32 ⌝ }
     ensures { λ r. ⌜ r ≡ minus 2 asked (top 2 32 t (shifted-coordinate columns shift index)) ⌝ }
 {
+    if index == 0 {
+        return asked ^ top(shift, t);
+    }
     asked ^ top(word::coordinate(columns, index, shift), t)
 }
 
@@ -52,39 +52,18 @@ fn plain_cell(plan: Plan, shift: Shift, m: u32, a: u32, column: u32, row: u32, b
     join(c, r, m - a)
 }
 
-// The index of a block in a cell, by a basis of the shape.
-fn solved(
-    words: [u32; 32],
-    indexes: [u32; 32],
-    plan: Plan,
-    shift: Shift,
-    m: u32,
-    a: u32,
-    column: u32,
-    row: u32,
-    block: Block,
-) -> Index
-    requires { ⌜ Valid (generators plan) × ShiftFits shift × Cell largest-level m a block column row × Basis (generators plan) m a words indexes ⌝ }
-    ensures { λ r. ⌜ Only (VisitIn (sequence plan shift) m a block column row) r ⌝ }
-{
-    let cell = plain_cell(plan, shift, m, a, column, row, block);
-    let found = sweep(words, indexes, m as usize, cell, 0);
-    join(block, found.index, m)
-}
-
 // The index of a block in a cell, where neither is refused.
 fn find(plan: Plan, shift: Shift, m: u32, a: u32, column: u32, row: u32, block: Block) -> Located
     requires { ⌜ Valid (generators plan) × ShiftFits shift × Cell largest-level m a block column row ⌝ }
     ensures { λ r. ⌜ of-located r ≡ of-location m a (locate (generators plan) (finish shift) m a block column row) ⌝ }
 {
-    let e = eliminate(plan, m, a);
+    let cell = plain_cell(plan, shift, m, a, column, row, block);
+    let e = eliminate(plan, m, a, cell);
     let bad = e.bad;
     if bad != 0 {
         return Located::Refused(Refusal::NotNet { m, a, j: bad });
     }
-    let words = e.words;
-    let indexes = e.indexes;
-    Located::Found(solved(words, indexes, plan, shift, m, a, column, row, block))
+    Located::Found(join(block, e.index, m))
 }
 
 // The one index of a block in a cell of the shape (m, a). No earlier check of the matrices is needed.

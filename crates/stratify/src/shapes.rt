@@ -19,7 +19,7 @@ fn scan(plan: Plan, level: u32) -> Judgement
     let mut m = 1u32;
     let mut a = 0u32;
     while m <= level {
-        let e = eliminate(plan, m, a);
+        let e = eliminate(plan, m, a, 0);
         let bad = e.bad;
         if bad != 0 {
             return Judgement::Refused(Refusal::NotNet { m, a, j: bad });

@@ -1,129 +1,131 @@
--- `stratify::elimination::eliminate` meets its contract. Assumes nothing.
-use mathlib.Core.Path.{_≡_, refl, sym, ap₂, _∙_, subst}
-use Prim.Native.Nat.{ℕ, _+_, _-_, _*_, _%_, _^_, _≤_}
+-- `stratify::elimination::eliminate` meets its contract: a column more is an entry of the basis. Assumes nothing.
+use mathlib.Core.Path.{_≡_, refl, sym, _∙_}
+use mathlib.Core.List.{List}
+use Prim.Native.Nat.{ℕ, _-_, _≤_}
 use native.Mathlib.Omega.{arith}
-use lib.Pow.{pow-mono}
+use borrow.Author.Needs.{needs}
+use lib.ListN.{getD, set, length-set}
 use Rattle.net.specs.Finish.{plain}
-use Rattle.net.specs.Elimination.{interval}
-use Rattle.net.proofs.Interval.{interval-additive, interval-lt}
-use Rattle.word.proofs.Turn.{one-shifted}
-use Rattle.plan.specs.Pair.{pair, generators}
-use Rattle.stratify.specs.Basis.{Sweeps}
-use Rattle.stratify.proofs.Refinement.{Going, going-none, going-kernel, going-more, interval-at, eliminates-kernel, eliminates-basis}
+use Rattle.net.specs.Elimination.{Additive, interval}
+use Rattle.net.proofs.Interval.{interval-additive}
+use Rattle.plan.specs.Pair.{generators}
+use Rattle.stratify.specs.Basis.{Long}
+use Rattle.stratify.proofs.Refinement.{Pending, Begun, begun, pending-none, pending-kernel, pending-more}
+use Rattle.stratify.proofs.Refinement.{eliminates-kernel, eliminates-basis}
 use Rattle.stratify.proofs.elimination.eliminate.Statement.{statement}
 use Rattle.stratify.proofs.elimination.eliminate.Tie as tie
 
 abbrev Inv-loop : tie.InvT-loop
-Inv-loop m a x y n words₀ indexes₀ c₀ words indexes c = (c ≤ m) × Going (interval (plain (pair x y)) m a) m words indexes c
+Inv-loop m a asked n words₀ indexes₀ c₀ words indexes c =
+    (c ≤ m) × Long words indexes
+    × ((L : ℕ → ℕ) → Additive 2 L → Begun L m asked words₀ indexes₀ → Pending L m asked c words indexes)
 
 abbrev μ-loop : tie.MeasureT-loop
-μ-loop m a x y n words₀ indexes₀ c₀ words indexes c = m - c
+μ-loop m a asked n words₀ indexes₀ c₀ words indexes c = m - c
 
 -- the interval of an index in the plain sequence
 abbrev L : tie.Start Inv-loop μ-loop → ℕ → ℕ
 L s = interval (plain (generators (s .args .plan))) (s .args .m) (s .args .a)
 
--- the code's cell of a column is the interval of the column's index
-cell : (c : tie.After-top2 Inv-loop μ-loop) → let s = c .before .before .before .before .before .before in
-    c .before .top .result * 2 ^ (s .args .m - s .args .a) + c .top2 .result ≡ L s (2 ^ c .before .before .before .loop .c)
-cell c =
-    let s = c .before .before .before .before .before .before in
-    ap₂ (λ (u v : ℕ). u * 2 ^ (s .args .m - s .args .a) + v) (c .before .top .ensures) (c .top2 .ensures)
-    ∙ sym (interval-at (s .pre) (c .before .before .before .loop .c))
+slice-aggregate-put-columns : tie.Need-slice-aggregate-put-columns Inv-loop μ-loop
+slice-aggregate-put-columns c = search needs
 
-swept : (c : tie.After-sweep Inv-loop μ-loop) → let l = c .before .before .before .before .before in
-    Sweeps (l .loop .words) (l .loop .indexes) (l .loop .c) (L (l .before .before .before) (2 ^ l .loop .c)) (2 ^ l .loop .c)
-    (c .sweep .result .word) (c .sweep .result .index)
-swept c =
-    let l = c .before .before .before .before .before .loop in
-    let r = c .sweep .result in
-    let v : c .before .join .result ≡ _ = c .before .join .ensures ∙ cell (c .before .before) in
-    let k : 1 * 2 ^ l .c % 2 ^ 32 ≡ 2 ^ l .c = one-shifted (l .c) (omega arith) in
-    subst (λ (z : ℕ). Sweeps (l .words) (l .indexes) (l .c) z (2 ^ l .c) (r .word) (r .index)) v
-    (subst (λ (z : ℕ). Sweeps (l .words) (l .indexes) (l .c) (c .before .join .result) z (r .word) (r .index)) k (c .sweep .ensures))
+slice-aggregate-put-columns-2 : tie.Need-slice-aggregate-put-columns-2 Inv-loop μ-loop
+slice-aggregate-put-columns-2 c = search needs
+
+put-columns-requires : tie.Need-put-columns-requires Inv-loop μ-loop
+put-columns-requires c κs = (c .before .before .pre, (refl, refl))
+
+mul-words : tie.Need-mul-words Inv-loop μ-loop
+mul-words c = let f = c .before .before .before .before .before .pre .fits in omega arith
+
+array-write-words : tie.Need-array-write-words Inv-loop μ-loop
+array-write-words c = let f = c .before .before .before .before .before .pre .fits in omega arith
+
+mul-indexes : tie.Need-mul-indexes Inv-loop μ-loop
+mul-indexes c = let f = c .before .before .before .before .before .pre .fits in omega arith
+
+array-write-indexes : tie.Need-array-write-indexes Inv-loop μ-loop
+array-write-indexes c = let f = c .before .before .before .before .before .pre .fits in omega arith
+
+-- the arrays as the loop begins
+start : (c : tie.After-put-columns Inv-loop μ-loop) → let s = c .before .before .before in
+    Begun (L s) (s .args .m) (s .args .asked) (set (c .put-columns .last .1 .1 .1 .0) (s .args .m) (s .args .asked))
+    (set (c .put-columns .last .1 .1 .1 .1 .0) (s .args .m) 0)
+start c =
+    let p = c .put-columns in
+    let f = c .before .before .before .pre .fits in
+    begun (c .before .before .before .args .asked) (p .last .1 .1 .1 .0) (p .last .1 .1 .1 .1 .0) (p .ensures) (omega (arith, f, p .kept .1 .1 .1 .0)) (omega (arith, f, p .kept .1 .1 .1 .1 .0))
 
 loop-holds : tie.Need-loop-holds Inv-loop μ-loop
-loop-holds c = (omega arith, going-none _ _ _ _ refl refl)
+loop-holds c =
+    let p = c .before .before .put-columns in
+    let m = c .before .before .before .before .before .args .m in (
+      omega arith,
+      (
+        length-set (p .last .1 .1 .1 .0) m (c .before .before .before .before .before .args .asked) ∙ p .kept .1 .1 .1 .0,
+        length-set (p .last .1 .1 .1 .1 .0) m 0 ∙ p .kept .1 .1 .1 .1 .0,
+      ),
+      λ L A b. pending-none b,
+    )
 
-mul-top : tie.Need-mul-top Inv-loop μ-loop
-mul-top c = omega arith
+mul-word : tie.Need-mul-word Inv-loop μ-loop
+mul-word c = let f = c .before .before .before .before .before .before .before .pre .fits in let w = c .before .loop .inv .1 in omega arith
 
-array-read-top : tie.Need-array-read-top Inv-loop μ-loop
-array-read-top c = omega arith
+array-read-word : tie.Need-array-read-word Inv-loop μ-loop
+array-read-word c = let f = c .before .before .before .before .before .before .before .pre .fits in let w = c .before .loop .inv .1 in omega arith
 
-top-requires : tie.Need-top-requires Inv-loop μ-loop
-top-requires c κs = omega arith
+mul-index : tie.Need-mul-index Inv-loop μ-loop
+mul-index c = let f = c .before .before .before .before .before .before .before .pre .fits in let w = c .before .loop .inv .1 in omega arith
 
-mul-top-2 : tie.Need-mul-top-2 Inv-loop μ-loop
-mul-top-2 c = omega arith
-
-array-read-top-2 : tie.Need-array-read-top-2 Inv-loop μ-loop
-array-read-top-2 c = omega arith
-
-sub-top : tie.Need-sub-top Inv-loop μ-loop
-sub-top c = omega arith
-
-top-requires-2 : tie.Need-top-requires-2 Inv-loop μ-loop
-top-requires-2 c κs = omega arith
-
-sub-join : tie.Need-sub-join Inv-loop μ-loop
-sub-join c = omega arith
-
-join-requires : tie.Need-join-requires Inv-loop μ-loop
-join-requires c κs =
-    let s = c .before .before .before .before .before .before in
-    let small = interval-lt (s .pre) (2 ^ c .before .before .before .loop .c) in
-    let wide : 2 ^ s .args .m ≤ 2 ^ 32 = pow-mono (s .pre .fits) in
-    let e = cell c in
-    (omega arith, omega arith)
-
-cast-sweep : tie.Need-cast-sweep Inv-loop μ-loop
-cast-sweep c = omega arith
-
-shl-sweep : tie.Need-shl-sweep Inv-loop μ-loop
-shl-sweep c = omega arith
-
-sweep-requires : tie.Need-sweep-requires Inv-loop μ-loop
-sweep-requires c κs = omega arith
+array-read-index : tie.Need-array-read-index Inv-loop μ-loop
+array-read-index c = let f = c .before .before .before .before .before .before .before .pre .fits in let w = c .before .loop .inv .1 in omega arith
 
 returns : tie.Need-returns Inv-loop μ-loop
 returns c =
-    let s = c .before .before .before .before .before .before .before .before .before in
-    let l = c .before .before .before .before .before .before .loop in
-    let r = c .before .sweep .result in
-    eliminates-kernel (s .pre) (l .words) (l .indexes) (r .index)
-    (going-kernel (interval-additive (s .pre)) (l .inv .1) (omega arith) (r .word) (r .index) (swept (c .before)) (c .if1 .taken))
+    let s = c .before .before .before .before .before .before .before .before in
+    let l = c .before .before .loop in
+    let A = interval-additive (s .pre) in
+    eliminates-kernel (s .pre) (s .args .asked) 0 (getD (l .indexes) (l .c) 0)
+    (pending-kernel A (l .inv .2 (L s) A (start (c .before .before .before .before .before))) (omega arith) (c .if1 .taken))
 
-mul-words : tie.Need-mul-words Inv-loop μ-loop
-mul-words c = omega arith
+slice-aggregate-clear : tie.Need-slice-aggregate-clear Inv-loop μ-loop
+slice-aggregate-clear c = sym (c .before .before .before .loop .inv .1 .0)
 
-array-write-words : tie.Need-array-write-words Inv-loop μ-loop
-array-write-words c = omega arith
+slice-aggregate-clear-2 : tie.Need-slice-aggregate-clear-2 Inv-loop μ-loop
+slice-aggregate-clear-2 c = sym (c .before .before .before .before .loop .inv .1 .1)
 
-mul-indexes : tie.Need-mul-indexes Inv-loop μ-loop
-mul-indexes c = omega arith
-
-array-write-indexes : tie.Need-array-write-indexes Inv-loop μ-loop
-array-write-indexes c = omega arith
+clear-requires : tie.Need-clear-requires Inv-loop μ-loop
+clear-requires c κs = let l = c .before .before .before .before .loop in let f = c .before .before .before .before .before .before .before .before .before .before .pre .fits in (c .before .before .if1 .left, omega arith, omega arith, l .inv .1)
 
 add-c : tie.Need-add-c Inv-loop μ-loop
-add-c c = omega arith
+add-c c = let f = c .before .before .before .before .before .before .before .before .before .before .before .before .before .pre .fits in omega arith
 
 loop-less : tie.Need-loop-less Inv-loop μ-loop
 loop-less c = omega arith
 
 loop-again : tie.Need-loop-again Inv-loop μ-loop
 loop-again c =
-    let s = c .before .before .before .before .before .before .before .before .before in
-    let l = c .before .before .before .before .before .before .loop in
-    let r = c .before .sweep .result in
-    let more = going-more (interval-additive (s .pre)) (l .inv .1) (omega arith) (r .word) (r .index) (swept (c .before)) in
-    (omega arith, more (c .if1 .left) (omega arith))
+    let l = c .before .before .before .before .before .before .before .loop in
+    let p = c .before .before .clear in
+    let f = c .before .before .before .before .before .before .before .before .before .before .before .before .before .pre .fits in (
+      omega arith,
+      (p .kept .0 ∙ l .inv .1 .0, p .kept .1 .0 ∙ l .inv .1 .1),
+      λ L A b. pending-more A (l .inv .2 L A b) (omega arith) (p .last .0) (p .last .1 .0) (c .before .before .before .before .before .if1 .left) (p .ensures) (omega arith),
+    )
+
+mul-t16 : tie.Need-mul-t16 Inv-loop μ-loop
+mul-t16 c = let f = c .before .before .before .before .before .before .before .pre .fits in let w = c .before .loop .inv .1 in omega arith
+
+array-read-t35 : tie.Need-array-read-t35 Inv-loop μ-loop
+array-read-t35 c = let f = c .before .before .before .before .before .before .before .pre .fits in let w = c .before .loop .inv .1 in omega arith
 
 returns-2 : tie.Need-returns-2 Inv-loop μ-loop
 returns-2 c =
+    let s = c .before .before .before .before .before .before .before in
     let l = c .before .loop in
-    eliminates-basis (c .before .before .before .before .pre) (l .words) (l .indexes) (l .c) (omega arith) (l .inv .1)
+    let A = interval-additive (s .pre) in
+    eliminates-basis (s .pre) (s .args .asked) (l .c) (l .words) (l .indexes) (omega arith) (l .inv .2 (L s) A (start (c .before .before .before .before)))
 
 pub eliminate-spec : {M : Type 1} → statement M
 eliminate-spec =
@@ -131,25 +133,25 @@ eliminate-spec =
     (tie.spec
     Inv-loop
     μ-loop
-    loop-holds
-    mul-top
-    array-read-top
-    top-requires
-    mul-top-2
-    array-read-top-2
-    sub-top
-    top-requires-2
-    sub-join
-    join-requires
-    cast-sweep
-    shl-sweep
-    sweep-requires
-    returns
+    slice-aggregate-put-columns
+    slice-aggregate-put-columns-2
+    put-columns-requires
     mul-words
     array-write-words
     mul-indexes
     array-write-indexes
+    loop-holds
+    mul-word
+    array-read-word
+    mul-index
+    array-read-index
+    returns
+    slice-aggregate-clear
+    slice-aggregate-clear-2
+    clear-requires
     add-c
     loop-less
     loop-again
+    mul-t16
+    array-read-t35
     returns-2)

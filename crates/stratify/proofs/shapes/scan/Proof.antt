@@ -42,7 +42,7 @@ loop-again c =
     let l = c .before .before .before .before .loop in
     let e = c .before .before .eliminate in
     let good : e .result .bad ≡ 0 = omega arith in
-    (omega arith, omega arith, omega arith, scan-next _ (l .m) (l .a) (l .inv .3) (e .ensures .basis good .answers .nonzero))
+    (omega arith, omega arith, omega arith, scan-next _ (l .m) (l .a) (l .inv .3) (e .ensures .found good .1 .nonzero))
 
 add-m : tie.Need-add-m Inv-loop μ-loop
 add-m c = omega arith
@@ -55,7 +55,7 @@ loop-again-2 c =
     let l = c .before .before .before .before .loop in
     let e = c .before .before .eliminate in
     let good : e .result .bad ≡ 0 = omega arith in
-    (omega arith, omega arith, omega arith, scan-row _ (l .m) (l .a) (omega arith) (l .inv .3) (e .ensures .basis good .answers .nonzero))
+    (omega arith, omega arith, omega arith, scan-row _ (l .m) (l .a) (omega arith) (l .inv .3) (e .ensures .found good .1 .nonzero))
 
 returns-2 : tie.Need-returns-2 Inv-loop μ-loop
 returns-2 c =

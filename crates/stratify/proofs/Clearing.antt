@@ -1,0 +1,199 @@
+-- Words cleared at a bit: the code's mask, a place more, and a part more. Assumes nothing.
+use mathlib.Core.Path.{_≡_, refl, sym, ap, ap₂, _∙_}
+use mathlib.Core.Logic.{_⊎_, inl, inr, _≢_}
+use mathlib.Core.List.{List}
+use Prim.Native.Nat.{ℕ, zero, suc, _+_, _-_, _*_, _/_, _%_, _^_, _≤_, _<_}
+use native.Mathlib.Nat.{mul-zero, mul-one, one-mul, zero-mul, mod-eq-of-lt, pow-suc}
+use native.Mathlib.Omega.{arith}
+use lib.Bits.{bitAnd, bitXor, and-zero-r, and-mask, and-high}
+use lib.Count.{trailingZeros}
+use lib.ListN.{length, getD, set, length-set}
+use lib.Seq.{getD-set-same, getD-set-other}
+use Rattle.digits.proofs.Digit.{pow-pos, pow-one}
+use Rattle.digits.proofs.Two.{one-lt-two}
+use Rattle.linear.proofs.Cases.{lt-or-ge}
+use Rattle.word.proofs.Turn.{one-shifted}
+use Rattle.stratify.specs.Basis.{added, Clears, Stays}
+
+-- ---- the mask
+
+-- a word's bit, as the code reads it
+and-bit : (word q : ℕ) → q < 32 → bitAnd word (1 * 2 ^ q % 2 ^ 32) ≡ word / 2 ^ q % 2 * 2 ^ q
+and-bit word q h =
+    ap (bitAnd word) (one-shifted q h ∙ one)
+    ∙ and-high word 1 q
+    ∙ ap (λ (x : ℕ). word / 2 ^ q % x * 2 ^ q) (pow-one one-lt-two)
+  where
+    next : 2 ^ suc q ≡ 2 ^ q * 2
+    next = rw pow-suc refl
+
+    twice : 2 ^ (1 + q) ≡ 2 ^ q * 2
+    twice = ap (λ (n : ℕ). 2 ^ n) (omega arith) ∙ next
+
+    one : 2 ^ q ≡ 2 ^ (1 + q) - 2 ^ q
+    one = omega (arith, twice)
+
+pub spread-none : (word q : ℕ) → q < 32 → bitAnd word (1 * 2 ^ q % 2 ^ 32) ≡ 0 → 0 ≡ word / 2 ^ q % 2 * 4294967295
+spread-none word q h e = go (word / 2 ^ q % 2) (omega arith) (sym (and-bit word q h) ∙ e)
+  where
+    go : (b : ℕ) → b < 2 → b * 2 ^ q ≡ 0 → 0 ≡ b * 4294967295
+    go zero l z = omega arith
+    go (suc b) l z = let some = pow-pos one-lt-two q in absurd (omega (arith, z, some))
+
+pub spread-all : (word q : ℕ) → q < 32 → bitAnd word (1 * 2 ^ q % 2 ^ 32) ≢ 0 → 4294967295 ≡ word / 2 ^ q % 2 * 4294967295
+spread-all word q h ne = go (word / 2 ^ q % 2) (omega arith) (λ z. ne (and-bit word q h ∙ z))
+  where
+    go : (b : ℕ) → b < 2 → b * 2 ^ q ≢ 0 → 4294967295 ≡ b * 4294967295
+    go zero l n = absurd (n (zero-mul (2 ^ q)))
+    go (suc b) l n = omega arith
+
+masked : (x w : ℕ) → x < 2 ^ 32 → bitAnd x (w % 2 * 4294967295) ≡ x * (w % 2)
+masked x w h = go (w % 2) (omega arith)
+  where
+    go : (b : ℕ) → b < 2 → bitAnd x (b * 4294967295) ≡ x * b
+    go zero l = and-zero-r x ∙ sym (mul-zero x)
+    go (suc zero) l = and-mask x 32 ∙ mod-eq-of-lt h ∙ sym (mul-one x)
+    go (suc (suc b)) l = absurd (omega arith)
+
+-- ---- a place more
+
+pub record Clearing (by along from at : ℕ) (words indexes words′ indexes′ : List ℕ) : Type 0 where
+  pub long-words : length words′ ≡ 36
+  pub long-indexes : length indexes′ ≡ 36
+  pub clears : Clears by along from at words indexes words′ indexes′
+  pub words-stay : Stays from at words words′
+  pub indexes-stay : Stays from at indexes indexes′
+
+pub clearing-none : (by along from : ℕ) (words indexes : List ℕ) → length words ≡ 36 → length indexes ≡ 36
+    → Clearing by along from from words indexes words indexes
+clearing-none by along from words indexes h k = record {
+  long-words = h;
+  long-indexes = k;
+  clears = record { word = λ d l u. absurd (omega arith); index = λ d l u. absurd (omega arith) };
+  words-stay = λ d o. refl;
+  indexes-stay = λ d o. refl;
+}
+
+-- one list: the place is set, and the others are as they were
+at-place : (l l′ : List ℕ) (from at x : ℕ) → Stays from at l l′ → at < length l′ → (f : ℕ → ℕ)
+    → ((d : ℕ) → from ≤ d → d < at → getD l′ d 0 ≡ f d) → x ≡ f at
+    → ((d : ℕ) → from ≤ d → d < at + 1 → getD (set l′ at x) d 0 ≡ f d) × (from ≤ at → Stays from (at + 1) l (set l′ at x))
+at-place l l′ from at x stays room f old is = (new, kept)
+  where
+    new : (d : ℕ) → from ≤ d → d < at + 1 → getD (set l′ at x) d 0 ≡ f d
+    new d low high = go (lt-or-ge d at)
+      where
+        go : (d < at) ⊎ (at ≤ d) → getD (set l′ at x) d 0 ≡ f d
+        go (inl h) = getD-set-other l′ at d x 0 (λ e. omega (arith, e, h)) ∙ old d low h
+        go (inr h) = let e : d ≡ at = omega arith in rw e (getD-set-same l′ at x 0 room ∙ is)
+
+    kept : from ≤ at → Stays from (at + 1) l (set l′ at x)
+    kept low d o = getD-set-other l′ at d x 0 (apart o) ∙ stays d (outside o)
+      where
+        apart : (d < from) ⊎ (at + 1 ≤ d) → d ≢ at
+        apart (inl h) e = omega (arith, e, h, low)
+        apart (inr h) e = omega (arith, e, h)
+
+        outside : (d < from) ⊎ (at + 1 ≤ d) → (d < from) ⊎ (at ≤ d)
+        outside (inl h) = inl h
+        outside (inr h) = inr (omega arith)
+
+module _ {by along from at : ℕ} {words indexes words′ indexes′ : List ℕ} (now : Clearing by along from at words indexes words′ indexes′)
+    (room : at < 36) (low : from ≤ at) (by-fits : by < 2 ^ 32) (along-fits : along < 2 ^ 32) where
+  pub clearing-more : (hit : ℕ) → hit ≡ getD words′ at 0 / 2 ^ trailingZeros 32 by % 2 * 4294967295
+      → Clearing by along from (at + 1) words indexes (set words′ at (bitXor (getD words′ at 0) (bitAnd by hit)))
+      (set indexes′ at (bitXor (getD indexes′ at 0) (bitAnd along hit)))
+  clearing-more hit e = record {
+    long-words = length-set words′ at _ ∙ now .long-words;
+    long-indexes = length-set indexes′ at _ ∙ now .long-indexes;
+    clears = record { word = w .0; index = i .0 };
+    words-stay = w .1 low;
+    indexes-stay = i .1 low;
+  }
+    where
+      here : getD words′ at 0 ≡ getD words at 0
+      here = now .words-stay at (inr (omega arith))
+
+      there : getD indexes′ at 0 ≡ getD indexes at 0
+      there = now .indexes-stay at (inr (omega arith))
+
+      bit : (x : ℕ) → x < 2 ^ 32 → bitAnd x hit ≡ x * (getD words at 0 / 2 ^ trailingZeros 32 by % 2)
+      bit x h =
+          ap (bitAnd x) (e ∙ ap (λ (z : ℕ). z / 2 ^ trailingZeros 32 by % 2 * 4294967295) here)
+          ∙ masked x (getD words at 0 / 2 ^ trailingZeros 32 by) h
+
+      w : ((d : ℕ) → from ≤ d → d < at + 1
+          → getD (set words′ at (bitXor (getD words′ at 0) (bitAnd by hit))) d 0 ≡ added by (getD words d 0) by (getD words d 0))
+          × (from ≤ at → Stays from (at + 1) words (set words′ at (bitXor (getD words′ at 0) (bitAnd by hit))))
+      w = at-place words words′ from at (bitXor (getD words′ at 0) (bitAnd by hit)) (now .words-stay) (omega (arith, now .long-words))
+          (λ d. added by (getD words d 0) by (getD words d 0)) (now .clears .word) (ap₂ bitXor here (bit by by-fits))
+
+      i : ((d : ℕ) → from ≤ d → d < at + 1
+          → getD (set indexes′ at (bitXor (getD indexes′ at 0) (bitAnd along hit))) d 0 ≡ added by (getD words d 0) along (getD indexes d 0))
+          × (from ≤ at → Stays from (at + 1) indexes (set indexes′ at (bitXor (getD indexes′ at 0) (bitAnd along hit))))
+      i = at-place indexes indexes′ from at (bitXor (getD indexes′ at 0) (bitAnd along hit)) (now .indexes-stay) (omega (arith, now .long-indexes))
+          (λ d. added by (getD words d 0) along (getD indexes d 0)) (now .clears .index) (ap₂ bitXor there (bit along along-fits))
+
+-- ---- a part more
+
+-- from c up to a place the words are cleared, and from there on nothing has changed
+pub record Parts (by along c to : ℕ) (words indexes words′ indexes′ : List ℕ) : Type 0 where
+  pub clears : Clears by along c to words indexes words′ indexes′
+  pub words-stay : (d : ℕ) → to ≤ d → getD words′ d 0 ≡ getD words d 0
+  pub indexes-stay : (d : ℕ) → to ≤ d → getD indexes′ d 0 ≡ getD indexes d 0
+
+pub parts-none : (by along c to : ℕ) (words indexes : List ℕ) → to ≤ c → Parts by along c to words indexes words indexes
+parts-none by along c to words indexes h = record {
+  clears = record { word = λ d l u. absurd (omega arith); index = λ d l u. absurd (omega arith) };
+  words-stay = λ d l. refl;
+  indexes-stay = λ d l. refl;
+}
+
+module _ {by along c to end : ℕ} {words indexes words′ indexes′ words″ indexes″ : List ℕ}
+    (now : Parts by along c to words indexes words′ indexes′) (clears : Clears by along to end words′ indexes′ words″ indexes″)
+    (words-stay : Stays to end words′ words″) (indexes-stay : Stays to end indexes′ indexes″) (up : to ≤ end) where
+  pub parts-more : Parts by along c end words indexes words″ indexes″
+  parts-more = record {
+    clears = record { word = λ d l u. word d l u (lt-or-ge d to); index = λ d l u. index d l u (lt-or-ge d to) };
+    words-stay = λ d l. words-stay d (inr l) ∙ now .words-stay d (omega arith);
+    indexes-stay = λ d l. indexes-stay d (inr l) ∙ now .indexes-stay d (omega arith);
+  }
+    where
+      word : (d : ℕ) → c ≤ d → d < end → (d < to) ⊎ (to ≤ d) → getD words″ d 0 ≡ added by (getD words d 0) by (getD words d 0)
+      word d l u (inl h) = words-stay d (inl h) ∙ now .clears .word d l h
+      word d l u (inr h) = clears .word d h u ∙ ap (λ (w : ℕ). added by w by w) (now .words-stay d h)
+
+      index : (d : ℕ) → c ≤ d → d < end → (d < to) ⊎ (to ≤ d) → getD indexes″ d 0 ≡ added by (getD words d 0) along (getD indexes d 0)
+      index d l u (inl h) = indexes-stay d (inl h) ∙ now .clears .index d l h
+      index d l u (inr h) =
+          clears .index d h u ∙ ap₂ (λ (w i : ℕ). added by w along i) (now .words-stay d h) (now .indexes-stay d h)
+
+pub fewer : {by along c to end : ℕ} {words indexes words′ indexes′ : List ℕ} → Clears by along c to words indexes words′ indexes′ → end ≤ to
+    → Clears by along c end words indexes words′ indexes′
+fewer clears h = record { word = λ d l u. clears .word d l (omega arith); index = λ d l u. clears .index d l (omega arith) }
+
+-- ---- the columns put one after the other
+
+pub record Putting (L : ℕ → ℕ) (n : ℕ) (words indexes : List ℕ) : Type 0 where
+  pub long-words : length words ≡ 36
+  pub long-indexes : length indexes ≡ 36
+  pub columns : (c : ℕ) → c < n → (getD words c 0 ≡ L (2 ^ c)) × (getD indexes c 0 ≡ 2 ^ c)
+
+pub putting-none : (L : ℕ → ℕ) (words indexes : List ℕ) → length words ≡ 36 → length indexes ≡ 36 → Putting L 0 words indexes
+putting-none L words indexes h k = record { long-words = h; long-indexes = k; columns = λ c l. absurd (omega arith) }
+
+pub putting-more : {L : ℕ → ℕ} {n : ℕ} {words indexes : List ℕ} → Putting L n words indexes → n < 36 → (word index : ℕ)
+    → word ≡ L (2 ^ n) → index ≡ 2 ^ n → Putting L (n + 1) (set words n word) (set indexes n index)
+putting-more {L} {n} {words} {indexes} now room word index e f = record {
+  long-words = length-set words n word ∙ now .long-words;
+  long-indexes = length-set indexes n index ∙ now .long-indexes;
+  columns = λ c l. go c (lt-or-ge c n) l;
+}
+  where
+    go : (c : ℕ) → (c < n) ⊎ (n ≤ c) → c < n + 1 → (getD (set words n word) c 0 ≡ L (2 ^ c)) × (getD (set indexes n index) c 0 ≡ 2 ^ c)
+    go c (inl h) l =
+        let other : c ≢ n = omega arith in
+        (getD-set-other words n c word 0 other ∙ now .columns c h .0, getD-set-other indexes n c index 0 other ∙ now .columns c h .1)
+    go c (inr h) l =
+        let same : c ≡ n = omega arith in
+        rw same (getD-set-same words n word 0 (omega (arith, now .long-words)) ∙ e, getD-set-same indexes n index 0 (omega (arith, now .long-indexes)) ∙ f)

@@ -1,0 +1,133 @@
+-- `stratify::elimination::put_columns` meets its contract: a column more is put. Assumes nothing.
+use mathlib.Core.Path.{_≡_, sym, ap₂, _∙_}
+use Prim.Native.Nat.{ℕ, _+_, _-_, _*_, _^_, _≤_}
+use native.Mathlib.Omega.{arith}
+use lib.Pow.{pow-mono}
+use Rattle.net.specs.Finish.{plain}
+use Rattle.net.specs.Elimination.{interval}
+use Rattle.net.proofs.Interval.{interval-lt}
+use Rattle.word.proofs.Turn.{one-shifted}
+use Rattle.plan.specs.Pair.{pair, generators}
+use Rattle.stratify.proofs.Refinement.{interval-at}
+use Rattle.stratify.proofs.Clearing.{Putting, putting-none, putting-more}
+use Rattle.stratify.proofs.elimination.put_columns.Statement.{statement}
+use Rattle.stratify.proofs.elimination.put_columns.Tie as tie
+
+abbrev Inv-loop : tie.InvT-loop
+Inv-loop m a words₀ indexes₀ x y n c₀ words indexes c = (c ≤ m) × Putting (interval (plain (pair x y)) m a) c words indexes
+
+abbrev μ-loop : tie.MeasureT-loop
+μ-loop m a words₀ indexes₀ x y n c₀ words indexes c = m - c
+
+-- the code's cell of a column is the interval of the column's index
+cell : (c : tie.After-top2 Inv-loop μ-loop) → let s = c .before .before .before .before .before .before .before .before in
+    c .before .top .result * 2 ^ (s .args .m - s .args .a) + c .top2 .result
+    ≡ interval (plain (generators (s .args .plan))) (s .args .m) (s .args .a) (2 ^ c .before .before .before .loop .c)
+cell c =
+    let s = c .before .before .before .before .before .before .before .before in
+    ap₂ (λ (u v : ℕ). u * 2 ^ (s .args .m - s .args .a) + v) (c .before .top .ensures) (c .top2 .ensures)
+    ∙ sym (interval-at (s .pre .0) (c .before .before .before .loop .c))
+
+loop-holds : tie.Need-loop-holds Inv-loop μ-loop
+loop-holds c = (omega arith, putting-none _ _ _ (c .before .before .before .before .pre .1 .0) (c .before .before .before .before .pre .1 .1))
+
+mul-top : tie.Need-mul-top Inv-loop μ-loop
+mul-top c = let w = c .before .loop .inv .1 .long-words in let i = c .before .loop .inv .1 .long-indexes in let f = c .before .before .before .before .before .before .pre .0 .fits in let d = c .before .before .before .before .before .before .pre .0 .wide in omega arith
+
+array-read-top : tie.Need-array-read-top Inv-loop μ-loop
+array-read-top c = let w = c .before .loop .inv .1 .long-words in let i = c .before .loop .inv .1 .long-indexes in let f = c .before .before .before .before .before .before .pre .0 .fits in let d = c .before .before .before .before .before .before .pre .0 .wide in omega arith
+
+top-requires : tie.Need-top-requires Inv-loop μ-loop
+top-requires c κs = let w = c .before .loop .inv .1 .long-words in let i = c .before .loop .inv .1 .long-indexes in let f = c .before .before .before .before .before .before .pre .0 .fits in let d = c .before .before .before .before .before .before .pre .0 .wide in omega arith
+
+mul-top-2 : tie.Need-mul-top-2 Inv-loop μ-loop
+mul-top-2 c = let w = c .before .before .loop .inv .1 .long-words in let i = c .before .before .loop .inv .1 .long-indexes in let f = c .before .before .before .before .before .before .before .pre .0 .fits in let d = c .before .before .before .before .before .before .before .pre .0 .wide in omega arith
+
+array-read-top-2 : tie.Need-array-read-top-2 Inv-loop μ-loop
+array-read-top-2 c = let w = c .before .before .loop .inv .1 .long-words in let i = c .before .before .loop .inv .1 .long-indexes in let f = c .before .before .before .before .before .before .before .pre .0 .fits in let d = c .before .before .before .before .before .before .before .pre .0 .wide in omega arith
+
+sub-top : tie.Need-sub-top Inv-loop μ-loop
+sub-top c = let w = c .before .before .loop .inv .1 .long-words in let i = c .before .before .loop .inv .1 .long-indexes in let f = c .before .before .before .before .before .before .before .pre .0 .fits in let d = c .before .before .before .before .before .before .before .pre .0 .wide in omega arith
+
+top-requires-2 : tie.Need-top-requires-2 Inv-loop μ-loop
+top-requires-2 c κs = let w = c .before .before .loop .inv .1 .long-words in let i = c .before .before .loop .inv .1 .long-indexes in let f = c .before .before .before .before .before .before .before .pre .0 .fits in let d = c .before .before .before .before .before .before .before .pre .0 .wide in omega arith
+
+sub-join : tie.Need-sub-join Inv-loop μ-loop
+sub-join c = let w = c .before .before .before .loop .inv .1 .long-words in let i = c .before .before .before .loop .inv .1 .long-indexes in let f = c .before .before .before .before .before .before .before .before .pre .0 .fits in let d = c .before .before .before .before .before .before .before .before .pre .0 .wide in omega arith
+
+join-requires : tie.Need-join-requires Inv-loop μ-loop
+join-requires c κs =
+    let s = c .before .before .before .before .before .before .before .before in
+    let small = interval-lt (s .pre .0) (2 ^ c .before .before .before .loop .c) in
+    let wide : 2 ^ s .args .m ≤ 2 ^ 32 = pow-mono (s .pre .0 .fits) in
+    let e = cell c in
+    let f = s .pre .0 .fits in
+    (omega arith, omega arith)
+
+mul-words : tie.Need-mul-words Inv-loop μ-loop
+mul-words c = let w = c .before .before .before .before .loop .inv .1 .long-words in let i = c .before .before .before .before .loop .inv .1 .long-indexes in let f = c .before .before .before .before .before .before .before .before .before .pre .0 .fits in let d = c .before .before .before .before .before .before .before .before .before .pre .0 .wide in omega arith
+
+slice-write-words : tie.Need-slice-write-words Inv-loop μ-loop
+slice-write-words c = let w = c .before .before .before .before .loop .inv .1 .long-words in let i = c .before .before .before .before .loop .inv .1 .long-indexes in let f = c .before .before .before .before .before .before .before .before .before .pre .0 .fits in let d = c .before .before .before .before .before .before .before .before .before .pre .0 .wide in omega arith
+
+cast-indexes : tie.Need-cast-indexes Inv-loop μ-loop
+cast-indexes c = let w = c .before .before .before .before .loop .inv .1 .long-words in let i = c .before .before .before .before .loop .inv .1 .long-indexes in let f = c .before .before .before .before .before .before .before .before .before .pre .0 .fits in let d = c .before .before .before .before .before .before .before .before .before .pre .0 .wide in omega arith
+
+shl-indexes : tie.Need-shl-indexes Inv-loop μ-loop
+shl-indexes c = let w = c .before .before .before .before .loop .inv .1 .long-words in let i = c .before .before .before .before .loop .inv .1 .long-indexes in let f = c .before .before .before .before .before .before .before .before .before .pre .0 .fits in let d = c .before .before .before .before .before .before .before .before .before .pre .0 .wide in omega arith
+
+mul-indexes : tie.Need-mul-indexes Inv-loop μ-loop
+mul-indexes c = let w = c .before .before .before .before .loop .inv .1 .long-words in let i = c .before .before .before .before .loop .inv .1 .long-indexes in let f = c .before .before .before .before .before .before .before .before .before .pre .0 .fits in let d = c .before .before .before .before .before .before .before .before .before .pre .0 .wide in omega arith
+
+slice-write-indexes : tie.Need-slice-write-indexes Inv-loop μ-loop
+slice-write-indexes c = let w = c .before .before .before .before .loop .inv .1 .long-words in let i = c .before .before .before .before .loop .inv .1 .long-indexes in let f = c .before .before .before .before .before .before .before .before .before .pre .0 .fits in let d = c .before .before .before .before .before .before .before .before .before .pre .0 .wide in omega arith
+
+add-c : tie.Need-add-c Inv-loop μ-loop
+add-c c = let w = c .before .before .before .before .loop .inv .1 .long-words in let i = c .before .before .before .before .loop .inv .1 .long-indexes in let f = c .before .before .before .before .before .before .before .before .before .pre .0 .fits in let d = c .before .before .before .before .before .before .before .before .before .pre .0 .wide in omega arith
+
+loop-less : tie.Need-loop-less Inv-loop μ-loop
+loop-less c = let w = c .before .before .before .before .loop .inv .1 .long-words in let i = c .before .before .before .before .loop .inv .1 .long-indexes in let f = c .before .before .before .before .before .before .before .before .before .pre .0 .fits in let d = c .before .before .before .before .before .before .before .before .before .pre .0 .wide in omega arith
+
+loop-again : tie.Need-loop-again Inv-loop μ-loop
+loop-again c =
+    let l = c .before .before .before .before .loop in
+    let f = c .before .before .before .before .before .before .before .before .before .pre .0 .fits in
+    (omega arith, putting-more (l .inv .1) (omega arith) (c .join .result) _ (c .join .ensures ∙ cell (c .before)) (one-shifted (l .c) (omega arith)))
+
+same-length : tie.Need-same-length Inv-loop μ-loop
+same-length c = c .before .loop .inv .1 .long-words ∙ sym (c .before .before .before .before .before .before .pre .1 .0)
+
+same-length-2 : tie.Need-same-length-2 Inv-loop μ-loop
+same-length-2 c = c .before .loop .inv .1 .long-indexes ∙ sym (c .before .before .before .before .before .before .pre .1 .1)
+
+returns : tie.Need-returns Inv-loop μ-loop
+returns c = let l = c .before .loop in let e : l .c ≡ c .before .before .before .before .before .before .args .m = omega arith in rw e at (l .inv .1) .columns
+
+pub put-columns-spec : {M : Type 1} → statement M
+put-columns-spec =
+    tie.close
+    (tie.spec
+    Inv-loop
+    μ-loop
+    loop-holds
+    mul-top
+    array-read-top
+    top-requires
+    mul-top-2
+    array-read-top-2
+    sub-top
+    top-requires-2
+    sub-join
+    join-requires
+    mul-words
+    slice-write-words
+    cast-indexes
+    shl-indexes
+    mul-indexes
+    slice-write-indexes
+    add-c
+    loop-less
+    loop-again
+    same-length
+    same-length-2
+    returns)
