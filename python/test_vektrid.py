@@ -1,0 +1,819 @@
+#!/usr/bin/env python3
+"""Tests of vektrid.py over the real library, with the standard library alone: python3 python/test_vektrid.py
+
+What is expected comes from document 01: its examples, or its definitions written out again here (columns, cells, singles as fractions). The tests
+that need numpy are skipped without it.
+"""
+import _ctypes
+import array
+import ctypes
+import doctest
+import glob
+import inspect
+import math
+import os
+import pickle
+import random
+import re
+import shutil
+import struct
+import subprocess
+import sys
+import tempfile
+import unittest
+from fractions import Fraction
+
+HERE = os.path.dirname(os.path.realpath(__file__))
+ROOT = os.path.dirname(HERE)
+sys.path.insert(0, HERE)
+import vektrid  # noqa: E402
+
+try:
+    import numpy
+except ImportError:
+    numpy = None
+
+LAST = 2**32 - 1
+SHIFTS = [(0, 0), (0x80000000, 0), (0x12345678, 0x9ABCDEF0), (LAST, LAST)]
+
+
+# ---- 01's definitions, once more
+
+
+def standard_words():
+    """01: X column c is 2^(31-c); Y has a one in row r, column c exactly when the binomial "c over r" is odd."""
+    x = [2**(31 - c) for c in range(32)]
+    y = [sum(2**(31 - r) for r in range(32) if math.comb(c, r) % 2) for c in range(32)]
+    return x + y
+
+
+def point_of(words, index, shift=(0, 0)):
+    """01: a coordinate is the exclusive or of the columns whose index bit is set, and then of that axis's scramble word."""
+    x, y = shift
+    for bit in range(32):
+        if index >> bit & 1:
+            x, y = x ^ words[bit], y ^ words[32 + bit]
+    return x, y
+
+
+def cell_of(point, m, a):
+    """01: the column is the top a bits of the first coordinate, the row the top m-a bits of the second."""
+    return point[0] >> (32 - a), point[1] >> (32 - (m - a))
+
+
+def first_bad(words, level):
+    """The first shape in which two of the indexes below 2^m share a cell, with the least index above 0 in the cell of index 0; or None."""
+    for m in range(1, level + 1):
+        points = [point_of(words, index) for index in range(2**m)]
+        for a in range(m + 1):
+            cells = [cell_of(point, m, a) for point in points]
+            if len(set(cells)) < 2**m:
+                return m, a, cells.index(cells[0], 1)
+    return None
+
+
+def head(first, level, reserved=bytes(24)):
+    return struct.pack('<II', first, level) + reserved
+
+
+def record(following, left=-500, top=0, width=1000, height=800, x_shift=0, y_shift=0, count=4):
+    return struct.pack('<IiiIIIII', following, left, top, width, height, x_shift, y_shift, count)
+
+
+EXAMPLE = head(1, 2) + record(0)
+EXAMPLE_LISTING = 'record visit x y\n1 0 -500 0\n1 1 0 400\n1 2 -250 600\n1 3 250 200\n'
+
+STANDARD = vektrid.Pair.standard()
+SWAPPED = vektrid.Pair(STANDARD.words[32:] + STANDARD.words[:32])  # a net of every level too: only the axes change places
+IDENTITIES = vektrid.Pair(2 * STANDARD.words[:32])
+
+
+# ---- refusals
+
+
+class RefusalTable(unittest.TestCase):
+    """Each example of 01's table raises its own class, with its number and the values that were given."""
+
+    def refused(self, kind, number, values, call):
+        with self.assertRaises(vektrid.Refusal) as caught:
+            call()
+        refusal = caught.exception
+        self.assertIs(type(refusal), kind)
+        self.assertEqual(refusal.number, number)
+        for value in values:
+            self.assertRegex(str(refusal), rf'(?<!\d){re.escape(str(value))}(?!\d)')
+        self.assertEqual(str(pickle.loads(pickle.dumps(refusal))), str(refusal))
+        return refusal
+
+    def test_1_word_count(self):
+        self.refused(vektrid.WordCount, 1, [63], lambda: vektrid.Pair(STANDARD.words[:63]))
+        self.refused(vektrid.WordCount, 1, [65], lambda: vektrid.Pair(STANDARD.words + (0,)))
+        self.refused(vektrid.WordCount, 1, [0], lambda: vektrid.Pair([]))
+
+    def test_2_level(self):
+        self.refused(vektrid.Level, 2, [33], lambda: STANDARD.check(33))
+        self.refused(vektrid.Level, 2, [0], lambda: STANDARD.check(0))
+        self.refused(vektrid.Level, 2, [33], lambda: STANDARD.query(33, 2, 1, 1, 0, 0))
+        self.refused(vektrid.Level, 2, [33], lambda: vektrid.judge(head(1, 33) + record(0)))
+
+    def test_3_not_net(self):
+        refusal = self.refused(vektrid.NotNet, 3, ['(2, 1)', 'j = 2'], lambda: IDENTITIES.check(2))
+        self.assertEqual((refusal.m, refusal.a, refusal.j), (2, 1, 2))
+        refusal = self.refused(vektrid.NotNet, 3, ['(2, 1)', 'j = 2'], lambda: IDENTITIES.query(32, 2, 1, 1, 0, 0))
+        self.assertEqual((refusal.m, refusal.a, refusal.j), (2, 1, 2))
+
+    def test_4_size(self):
+        self.refused(vektrid.Size, 4, ['m = 3', 'level 2'], lambda: STANDARD.query(2, 3, 1, 0, 0, 0))
+
+    def test_5_shape(self):
+        self.refused(vektrid.Shape, 5, ['m = 2', 'a = 3'], lambda: STANDARD.query(32, 2, 3, 0, 0, 0))
+
+    def test_6_cell(self):
+        self.refused(vektrid.Cell, 6, ['(2, 1)', 'column = 2'], lambda: STANDARD.query(32, 2, 1, 2, 0, 0))
+        self.refused(vektrid.Cell, 6, ['(2, 1)', 'row = 2'], lambda: STANDARD.query(32, 2, 1, 0, 2, 0))
+
+    def test_7_block(self):
+        self.refused(vektrid.Block, 7, ['2^4', '2^28', 268435456], lambda: STANDARD.query(32, 4, 2, 0, 0, 268435456))
+
+    def test_8_buffer_lengths(self):
+        xs, ys = array.array('I', 4 * [7]), array.array('I', 5 * [7])
+        self.refused(vektrid.BufferLengths, 8, [4, 5], lambda: STANDARD.fill(0, (xs, ys)))
+        self.assertEqual((list(xs), list(ys)), (4 * [7], 5 * [7]))
+
+    def test_9_index_range(self):
+        xs, ys = array.array('I', [7, 7]), array.array('I', [7, 7])
+        self.refused(vektrid.IndexRange, 9, [LAST, 2], lambda: STANDARD.fill(LAST, (xs, ys)))
+        self.assertEqual((list(xs), list(ys)), ([7, 7], [7, 7]))
+        self.refused(vektrid.IndexRange, 9, [LAST, 2], lambda: STANDARD.fill(LAST, 2))
+        self.refused(vektrid.IndexRange, 9, [LAST, 2], lambda: STANDARD.walk(LAST, 2))
+        self.refused(vektrid.IndexRange, 9, [LAST, 2], lambda: STANDARD.walk_singles(LAST, 2))
+        self.refused(vektrid.IndexRange, 9, [0, 2**64 - 1], lambda: STANDARD.fill(0, 2**64 - 1))
+
+    def test_10_region(self):
+        self.refused(vektrid.RegionLimits, 10, ['width = 0'], lambda: vektrid.Region(0, 0, 0, 800))
+        for place, name in enumerate(vektrid.Region._fields):
+            outside = [-1000001, 1000001] if place < 2 else [0, 1000001]
+            for value in outside:
+                values = [0, 0, 1, 1]
+                values[place] = value
+                self.refused(vektrid.RegionLimits, 10, [f'{name} = {value}'], lambda: vektrid.Region(*values))
+
+    def test_10_to_15_files(self):
+        for kind, number, values, file in [
+                (vektrid.RegionLimits, 10, ['record 1', 'width = 0'], head(1, 2) + record(0, width=0)),
+                (vektrid.FileLength, 11, [40], EXAMPLE[:40]),
+                (vektrid.FileLength, 11, [0], b''),
+                (vektrid.FileLength, 11, [65568], head(0, 1) + bytes(65536)),
+                (vektrid.Header, 12, ['byte 8', 'is 1'], head(1, 2, b'\1' + bytes(23)) + record(0)),
+                (vektrid.Header, 12, ['byte 31', 'is 9'], head(1, 2, bytes(23) + b'\x09') + record(0)),
+                (vektrid.MissingRecord, 13, ['record 1', 'record 5'], head(1, 2) + record(5)),
+                (vektrid.MissingRecord, 13, ['record 0', 'record 2'], head(2, 2) + record(0)),
+                (vektrid.ChainReturns, 14, ['record 1 names record 1'], head(1, 2) + record(1)),
+                (vektrid.ChainReturns, 14, ['record 3 names record 2'], head(1, 2) + record(2) + record(3) + record(2)),
+                (vektrid.VisitCount, 15, ['record 1', 4097], head(1, 2) + record(0, count=4097))]:
+            with self.subTest(number=number, file=file[:96]):
+                self.refused(kind, number, values, lambda: vektrid.judge(file))
+                self.refused(kind, number, values, lambda: vektrid.visits(file))  # at the call, not at the first visit
+                self.assertEqual(vektrid.listing(file), f'refused {number}\n')
+
+    def test_one_class_for_each_number(self):
+        self.assertEqual(sorted(kind.number for kind in vektrid.Refusal.__subclasses__()), list(range(1, 16)))
+        self.assertTrue(issubclass(vektrid.Refusal, ValueError))
+
+    def test_number_unknown(self):
+        with self.assertRaisesRegex(RuntimeError, '16'):
+            vektrid._accept(16)
+
+
+class RefusalOrder(unittest.TestCase):
+    """Where several refusals are due, the first of 01's order is given."""
+
+    def test_query(self):
+        # from the last test to the first: each line makes one thing more wrong
+        for number, given in [(3, (32, 4, 2, 0, 0, 0)), (7, (32, 4, 2, 0, 0, 2**28)), (6, (32, 4, 2, 4, 0, 2**28)), (5, (32, 4, 5, 4, 0, 2**28)),
+                              (4, (3, 4, 5, 4, 0, 2**28)), (2, (0, 4, 5, 4, 0, 2**28))]:
+            with self.assertRaises(vektrid.Refusal) as caught:
+                IDENTITIES.query(*given)
+            self.assertEqual(caught.exception.number, number)
+
+    def test_check_and_fill(self):
+        with self.assertRaises(vektrid.Level):
+            IDENTITIES.check(33)
+        with self.assertRaises(vektrid.BufferLengths):
+            STANDARD.fill(LAST, (array.array('I', 2 * [0]), array.array('I', 3 * [0])))
+
+    def test_file(self):
+        used = b'\1' + bytes(23)
+        wrong = dict(width=0, count=4097)
+        for number, file in [(15, head(1, 2) + record(9, count=4097)), (10, head(1, 2) + record(9, **wrong)), (13, head(1, 2) + record(9)),
+                             (14, head(1, 2) + record(2) + record(1) + record(0, **wrong)), (13, head(9, 2) + record(1, **wrong)),
+                             (12, head(9, 2, used)), (2, head(9, 0, used)), (11, head(9, 0, used) + b'x')]:
+            with self.assertRaises(vektrid.Refusal) as caught:
+                vektrid.judge(file)
+            self.assertEqual(caught.exception.number, number)
+
+
+# ---- 01's known points and wrong turns
+
+
+class KnownPoints(unittest.TestCase):
+
+    def test_points(self):
+        for index, x, y in [(0, 0, 0), (1, 0x80000000, 0x80000000), (2, 0x40000000, 0xC0000000), (3, 0xC0000000, 0x40000000),
+                            (5, 0xA0000000, 0x20000000)]:
+            self.assertEqual(STANDARD.point(index), (x, y))
+            self.assertEqual(vektrid.standard_point(index), (x, y))
+
+    def test_queries(self):
+        self.assertEqual(STANDARD.query(32, 2, 1, 1, 0, 0), 3)
+        self.assertEqual(STANDARD.query(32, 2, 1, 1, 0, 1), 5)
+        self.assertEqual(STANDARD.query(32, 2, 1, 1, 0, 0, shift=(0x80000000, 0)), 0)
+        for block in (0, 5, LAST):
+            self.assertEqual(STANDARD.query(1, 0, 0, 0, 0, block), block)
+
+    def test_all_zero_pair(self):
+        with self.assertRaises(vektrid.NotNet) as caught:
+            vektrid.Pair(64 * [0]).check(1)
+        self.assertEqual((caught.exception.m, caught.exception.a, caught.exception.j), (1, 0, 1))
+
+    def test_single_bits(self):
+        for word, bits in [(1, 0x2F800000), (LAST, 0x3F7FFFFF), (0, 0)]:
+            self.assertEqual(struct.pack('<f', vektrid.single(word)), struct.pack('<I', bits))
+
+    def test_accepted_at_the_limit(self):
+        self.assertEqual(STANDARD.query(32, 4, 2, 0, 0, 268435455) >> 4, 268435455)
+        self.assertEqual(STANDARD.fill(LAST, 1), ([STANDARD.point(LAST).x], [STANDARD.point(LAST).y]))
+        self.assertEqual(len(list(vektrid.visits(head(1, 2) + record(0, count=4096)))), 4096)
+
+    def test_standard_pair(self):
+        self.assertEqual(list(STANDARD.words), standard_words())
+        self.assertEqual(STANDARD.words[32:36], (0x80000000, 0xC0000000, 0xA0000000, 0xF0000000))
+        self.assertIsNone(STANDARD.check(32))
+        self.assertIsNone(SWAPPED.check(32))
+
+
+class WrongTurns(unittest.TestCase):
+    """01's "Wrong turns near at hand"."""
+
+    def test_only_square_shapes_checked(self):
+        # X without its column 1: the square (2, 1) is sound, and the strips of (2, 2) are not
+        words = list(STANDARD.words)
+        words[1] = 0
+        with self.assertRaises(vektrid.NotNet) as caught:
+            vektrid.Pair(words).check(2)
+        self.assertEqual((caught.exception.m, caught.exception.a, caught.exception.j), (2, 2, 2))
+
+    def test_base_of_block_added_to_the_plain_answer(self):
+        self.assertEqual(STANDARD.query(32, 2, 1, 1, 0, 1), 5)
+        self.assertEqual(cell_of(STANDARD.point(7), 2, 1), (1, 1))
+
+    def test_single_rounded_to_nearest(self):
+        self.assertLess(vektrid.single(0x7FFFFFFF), 0.5)
+        self.assertEqual(struct.unpack('<f', struct.pack('<f', 0x7FFFFFFF / 2**32))[0], 0.5)  # which rounding would have given
+
+    def test_leading_one_of_word_1_dropped(self):
+        self.assertEqual(vektrid.single(1), 2.0**-32)
+
+    def test_signed_sum_cut_toward_zero(self):
+        self.assertEqual(vektrid.Region(-1, 0, 3, 1).position(0x40000000, 0), (-1, 0))
+
+
+# ---- points, fills, walks, queries against 01's definitions
+
+
+class Points(unittest.TestCase):
+
+    def test_against_the_definition(self):
+        chosen = random.Random(1)
+        other = vektrid.Pair([chosen.getrandbits(32) for _ in range(64)])
+        for index in [0, 1, 0x80000000, LAST] + [chosen.getrandbits(32) for _ in range(200)]:
+            for shift in SHIFTS:
+                for pair in (STANDARD, other):
+                    self.assertEqual(pair.point(index, shift), point_of(pair.words, index, shift))
+                self.assertEqual(vektrid.standard_point(index, shift), point_of(STANDARD.words, index, shift))
+
+    def test_singles(self):
+        for index in (0, 1, 2, 77, LAST):
+            x, y = STANDARD.point(index, SHIFTS[2])
+            self.assertEqual(STANDARD.point_singles(index, SHIFTS[2]), (vektrid.single(x), vektrid.single(y)))
+
+    def test_pair_is_a_value(self):
+        words = list(STANDARD.words)
+        pair = vektrid.Pair(words)
+        words[0] = 0
+        self.assertEqual(pair.words, STANDARD.words)
+        self.assertEqual((pair, hash(pair)), (STANDARD, hash(STANDARD)))
+        self.assertNotEqual(pair, vektrid.Pair(words))
+        self.assertEqual(pickle.loads(pickle.dumps(pair)), pair)
+        self.assertEqual(eval(repr(pair), {'Pair': vektrid.Pair}), pair)
+
+
+class Fills(unittest.TestCase):
+
+    def test_against_points(self):
+        starts = [(start, count) for start in (0, 1, 3, 7, 255, 65535, 2**31 - 1) for count in (0, 1, 2, 3, 5, 31, 64, 129)]
+        starts += [(2**32 - back, count) for back in (1, 2, 3, 17, 130) for count in (1, 2, 3, 17, 130) if count <= back]
+        for start, count in starts:
+            for pair in (STANDARD, IDENTITIES):
+                xs, ys = pair.fill(start, count, SHIFTS[2])
+                self.assertEqual(list(zip(xs, ys)), [point_of(pair.words, start + place, SHIFTS[2]) for place in range(count)])
+                self.assertEqual((type(xs), len(xs), len(ys)), (list, count, count))
+
+    def test_in_place(self):
+        for make in (lambda: array.array('I', 9 * [1]), lambda: (ctypes.c_uint32 * 9)(*9 * [1]), lambda: memoryview(bytearray(36)).cast('I')):
+            xs, ys = make(), make()
+            given = STANDARD.fill(5, (xs, ys))
+            self.assertIs(given[0], xs)
+            self.assertIs(given[1], ys)
+            self.assertEqual([list(xs), list(ys)], list(STANDARD.fill(5, 9)))
+
+    def test_array_may_grow_again(self):
+        xs, ys = array.array('I', [0]), array.array('I', [0])
+        STANDARD.fill(1, [xs, ys])
+        xs.append(3)
+        self.assertEqual(list(xs), [0x80000000, 3])
+
+    def test_part_of_a_buffer(self):
+        words = array.array('I', 12 * [7])
+        view = memoryview(words)
+        STANDARD.fill(0, (view[1:5], view[5:9]))  # neighbours, and nothing else is written
+        self.assertEqual(list(words), [7] + STANDARD.fill(0, 4)[0] + STANDARD.fill(0, 4)[1] + 3 * [7])
+
+    def test_length_0(self):
+        xs, ys = array.array('I'), array.array('I')
+        STANDARD.fill(LAST, (xs, ys))
+        STANDARD.fill(0, (xs, xs))
+        STANDARD.fill(0, ((ctypes.c_uint32 * 0)(), ys))
+        self.assertEqual((len(xs), len(ys), STANDARD.fill(LAST, 0)), (0, 0, ([], [])))
+        with self.assertRaises(vektrid.BufferLengths):
+            STANDARD.fill(0, (xs, array.array('I', [7])))
+
+
+class LentBuffers(unittest.TestCase):
+    """What is no buffer of words never reaches the library, and the other buffer keeps its content."""
+
+    def refused(self, error, message, wrong):
+        for place in range(2):
+            good = array.array('I', 4 * [7])
+            with self.assertRaisesRegex(error, message) as caught:
+                STANDARD.fill(0, (wrong, good) if place == 0 else (good, wrong))
+            self.assertNotIsInstance(caught.exception, vektrid.Refusal)
+            self.assertIn(('xs', 'ys')[place], str(caught.exception))
+            self.assertEqual(list(good), 4 * [7])
+
+    def test_no_buffers(self):
+        for wrong in ([1, 2, 3, 4], (1, 2, 3, 4), 'four', None, 4):
+            self.refused(TypeError, 'is needed', wrong)
+        for wrong in ((), (array.array('I'),), 3 * (array.array('I'),), 'four'):
+            with self.assertRaisesRegex(TypeError, 'count, or two buffers'):
+                STANDARD.fill(0, wrong)
+
+    def test_other_items(self):
+        for code in 'bBhHifdqQ':
+            self.refused(TypeError, 'not 32-bit unsigned', array.array(code, 4 * [7]))
+        for kind in (ctypes.c_int32, ctypes.c_float, ctypes.c_uint64, ctypes.c_uint8, ctypes.c_uint32.__ctype_be__):
+            if kind is not ctypes.c_uint32:
+                self.refused(TypeError, 'not 32-bit unsigned', (kind * 4)())
+        self.refused(TypeError, 'not 32-bit unsigned', ctypes.pointer(ctypes.c_uint32()))
+        self.refused(TypeError, 'not 32-bit unsigned', b'sixteen bytes...')
+
+    def test_not_writeable(self):
+        held = array.array('I', 4 * [7])
+        self.refused(TypeError, 'not writeable', memoryview(held).toreadonly())
+        self.refused(TypeError, 'not writeable', memoryview(bytes(16)).cast('I'))
+        self.assertEqual(list(held), 4 * [7])
+
+    def test_not_contiguous(self):
+        held = array.array('I', 8 * [7])
+        self.refused(TypeError, 'contiguous', memoryview(held)[::2])
+        self.refused(TypeError, 'contiguous', memoryview(held)[::-1])
+        self.refused(TypeError, 'one-dimensional', memoryview(bytearray(16)).cast('I', (2, 2)))
+        self.refused(TypeError, 'one-dimensional', ctypes.c_uint32())
+        self.refused(TypeError, 'one-dimensional', ((ctypes.c_uint32 * 2) * 2)())
+        self.assertEqual(list(held), 8 * [7])
+
+    def test_not_aligned(self):
+        held = bytearray(18)
+        self.refused(TypeError, 'not aligned', memoryview(held)[1:17].cast('I'))
+        self.assertEqual(held, bytes(18))
+
+    def test_overlapping(self):
+        words = array.array('I', 8 * [7])
+        view = memoryview(words)
+        for xs, ys in [(words, words), (view[0:4], view[3:7]), (view[3:7], view[0:4]), (view[0:8], view[2:4]), (view[0:4], view[0:5]), (view, words)]:
+            with self.assertRaisesRegex(ValueError, 'overlap') as caught:
+                STANDARD.fill(0, (xs, ys))
+            self.assertNotIsInstance(caught.exception, vektrid.Refusal)
+        self.assertEqual(list(words), 8 * [7])
+
+
+class Walks(unittest.TestCase):
+
+    def test_to_the_end_and_beyond(self):
+        walk = STANDARD.walk(6, 3, SHIFTS[2])
+        for taken in range(3):
+            self.assertEqual((walk.next, walk.left), (6 + taken, 3 - taken))
+            self.assertEqual(walk.step(), (6 + taken,) + STANDARD.point(6 + taken, SHIFTS[2]))
+        for _ in range(3):
+            self.assertIsNone(walk.step())
+            self.assertIsNone(walk.step_singles())
+            self.assertEqual((walk.next, walk.left), (9, 0))
+            self.assertRaises(StopIteration, next, walk)
+
+    def test_to_the_last_index(self):
+        walk = STANDARD.walk(2**32 - 3, 3)
+        self.assertEqual([visit.index for visit in walk], [2**32 - 3, 2**32 - 2, LAST])
+        self.assertEqual((walk.next, walk.left), (LAST, 0))
+        self.assertIsNone(walk.step())
+
+    def test_the_whole_sequence_may_be_opened(self):
+        walk = STANDARD.walk(0, 2**32)
+        self.assertEqual((walk.next, walk.left), (0, 2**32))
+        self.assertEqual(next(walk), (0, 0, 0))
+        self.assertEqual((walk.next, walk.left), (1, LAST))
+        for start, count in ((0, 2**32 + 1), (1, 2**32), (LAST, 2**64 - 1)):
+            self.assertRaises(vektrid.IndexRange, STANDARD.walk, start, count)
+
+    def test_none_to_visit(self):
+        for start in (0, 7, LAST):
+            walk = STANDARD.walk(start, 0)
+            self.assertEqual((list(walk), walk.next, walk.left), ([], start, 0))
+
+    def test_singles(self):
+        for visit, word_visit in zip(STANDARD.walk_singles(1, 40, SHIFTS[2]), STANDARD.walk(1, 40, SHIFTS[2])):
+            self.assertEqual(visit, (word_visit.index, vektrid.single(word_visit.x), vektrid.single(word_visit.y)))
+            self.assertIsInstance(visit, vektrid.SinglesVisit)
+        self.assertEqual(len(list(STANDARD.walk_singles(1, 40))), 40)
+
+    def test_resumed(self):
+        walk = STANDARD.walk(10, 5)
+        first = [next(walk), next(walk)]
+        again = STANDARD.walk(walk.next, walk.left)
+        self.assertEqual(first + list(again), list(STANDARD.walk(10, 5)))
+        self.assertEqual(repr(walk), '<Walk next=12 left=3>')
+
+
+class Queries(unittest.TestCase):
+
+    def test_every_cell_of_every_small_shape(self):
+        for pair in (STANDARD, SWAPPED):
+            for m in range(6):
+                for block in (0, 1, 5, 2**(32 - m) - 1):
+                    for shift in SHIFTS:
+                        indexes = range(block << m, (block + 1) << m)
+                        points = [point_of(pair.words, index, shift) for index in indexes]
+                        self.every_cell(pair, m, block, shift, indexes, points)
+
+    def every_cell(self, pair, m, block, shift, indexes, points):
+        for a in range(m + 1):
+            there = {cell_of(point, m, a): index for point, index in zip(points, indexes)}
+            self.assertEqual(len(there), 2**m)  # one visit in every cell
+            for column in range(2**a):
+                for row in range(2**(m - a)):
+                    self.assertEqual(pair.query(5, m, a, column, row, block, shift), there[column, row])
+
+    def test_large_shapes(self):
+        chosen = random.Random(2)
+        for m in (17, 31, 32):
+            for a in (0, 1, m // 2, m):
+                column, row, block = chosen.randrange(2**a), chosen.randrange(2**(m - a)), chosen.randrange(2**(32 - m))
+                index = STANDARD.query(32, m, a, column, row, block, SHIFTS[2])
+                self.assertEqual(index >> m, block)
+                self.assertEqual(cell_of(point_of(STANDARD.words, index, SHIFTS[2]), m, a), (column, row))
+
+    def test_check_against_all_visits(self):
+        # the standard pair with a few bits turned over: the first bad shape is found by looking at every visit
+        chosen, passed = random.Random(3), 0
+        for _ in range(150):
+            words = list(STANDARD.words)
+            for _ in range(chosen.randrange(1, 4)):
+                words[32 * chosen.randrange(2) + chosen.randrange(6)] ^= 2**(31 - chosen.randrange(6))
+            bad, pair = first_bad(words, 5), vektrid.Pair(words)
+            if bad is None:
+                passed += 1
+                self.assertIsNone(pair.check(5))
+                continue
+            with self.assertRaises(vektrid.NotNet) as caught:
+                pair.check(5)
+            self.assertEqual((caught.exception.m, caught.exception.a, caught.exception.j), bad)
+            with self.assertRaises(vektrid.NotNet) as caught:
+                pair.query(32, *bad[:2], 0, 0, 0, SHIFTS[2])
+            self.assertEqual((caught.exception.m, caught.exception.a, caught.exception.j), bad)
+        self.assertTrue(10 < passed < 140, passed)  # both answers have been seen
+
+
+# ---- unit numbers and positions
+
+
+class UnitNumbers(unittest.TestCase):
+
+    def words(self):
+        chosen = random.Random(4)
+        near = [2**power + by for power in range(33) for by in (-2, -1, 0, 1, 2)]
+        spread = [chosen.getrandbits(32) >> chosen.randrange(32) for _ in range(2000)]
+        return [word for word in near + spread if 0 <= word <= LAST]
+
+    def test_double_is_exact(self):
+        for word in self.words():
+            self.assertEqual(Fraction(vektrid.double(word)), Fraction(word, 2**32))
+
+    def test_single_is_the_largest_not_above(self):
+        for word in self.words():
+            bits = struct.unpack('<I', struct.pack('<f', vektrid.single(word)))[0]
+            here, above = (Fraction(struct.unpack('<f', struct.pack('<I', each))[0]) for each in (bits, bits + 1))
+            self.assertEqual(Fraction(vektrid.single(word)), here)  # the float is that single, and not something between
+            self.assertLessEqual(here, Fraction(word, 2**32))
+            self.assertLess(Fraction(word, 2**32), above)
+
+    def test_single_falls_short_by_01s_bound_and_keeps_its_strip(self):
+        for word in self.words():
+            zeros, value = 32 - word.bit_length(), Fraction(vektrid.single(word))
+            short = word - value * 2**32
+            self.assertTrue(short < 2**(8 - zeros) if zeros < 8 else short == 0, word)
+            self.assertEqual(math.floor(value * 2**24), word >> 8)
+
+
+class Positions(unittest.TestCase):
+
+    def test_floor(self):
+        chosen = random.Random(5)
+        regions = [(-1000000, 1000000, 1000000, 1), (1000000, -1000000, 1, 1000000), (-1, -3, 3, 7)]
+        regions += [[chosen.randint(-10**6, 10**6) for _ in range(2)] + [chosen.randint(1, 10**6) for _ in range(2)] for _ in range(50)]
+        for left, top, width, height in regions:
+            for x, y in [(0, 0), (LAST, LAST)] + [(chosen.getrandbits(32), chosen.getrandbits(32)) for _ in range(10)]:
+                at = vektrid.Region(left, top, width, height).position(x, y)
+                self.assertEqual(at, (left + math.floor(Fraction(x * width, 2**32)), top + math.floor(Fraction(y * height, 2**32))))
+
+    def test_region_is_a_value(self):
+        region = vektrid.Region(left=-500, top=0, width=1000, height=800)
+        self.assertEqual((region, region.width), ((-500, 0, 1000, 800), 1000))
+        with self.assertRaises(vektrid.RegionLimits):
+            region._replace(width=0).position(0, 0)  # however a region was made, the library judges it
+        with self.assertRaisesRegex(ValueError, 'width = -1'):
+            region._replace(width=-1).position(0, 0)
+
+
+# ---- region files
+
+
+class RegionFiles(unittest.TestCase):
+
+    def test_example(self):
+        self.assertIsNone(vektrid.judge(EXAMPLE))
+        self.assertEqual(vektrid.listing(EXAMPLE), EXAMPLE_LISTING)
+        self.assertEqual(list(vektrid.visits(EXAMPLE)), [(1, 0, -500, 0), (1, 1, 0, 400), (1, 2, -250, 600), (1, 3, 250, 200)])
+        self.assertEqual(next(vektrid.visits(EXAMPLE))._fields, ('record', 'index', 'x', 'y'))
+
+    def test_samples(self):
+        samples = sorted(glob.glob(os.path.join(ROOT, 'samples', '*.region')))
+        self.assertGreater(len(samples), 5)
+        for path in samples:
+            with open(path, 'rb') as file, open(path.replace('.region', '.listing'), encoding='ascii') as stored:
+                self.assertEqual(vektrid.listing(file.read()), stored.read(), path)
+
+    def longest(self):
+        """A file of 65,536 bytes with a chain of three records, numbers of every length, and all else off the chain."""
+        chain = {1: record(2047, -1000000, -1000000, 1, 1, LAST, LAST, 300), 2047: record(9, 999999, -7, 1000000, 999999, 0x12345678, 5, 1100),
+                 9: record(0, 0, 0, 10, 10, count=0)}
+        return head(1, 32) + b''.join(chain.get(number, b'\xff' * 32) for number in range(1, 2048))
+
+    def test_visits_are_the_listing(self):
+        for file in (EXAMPLE, head(0, 1), self.longest()):
+            lines = vektrid.listing(file).splitlines()
+            self.assertEqual(lines[0], 'record visit x y')
+            self.assertEqual([' '.join(map(str, visit)) for visit in vektrid.visits(file)], lines[1:])
+        self.assertEqual(len(lines), 1 + 300 + 1100)
+
+    def test_visits_are_positions_of_standard_points(self):
+        region = vektrid.Region(999999, -7, 1000000, 999999)
+        visits = [visit for visit in vektrid.visits(self.longest()) if visit.record == 2047]
+        self.assertEqual(len(visits), 1100)
+        for visit in visits:
+            self.assertEqual(visit[2:], region.position(*vektrid.standard_point(visit.index, (0x12345678, 5))))
+
+    def test_pieces(self):
+        for file in (EXAMPLE, head(0, 1), EXAMPLE[:40], self.longest()):
+            for room in (46, 47, 64, 100, 1000, 65536):
+                pieces = list(vektrid.listing_pieces(file, room))
+                self.assertEqual(b''.join(pieces).decode(), vektrid.listing(file))
+                self.assertTrue(all(0 < len(piece) <= room and piece.endswith(b'\n') for piece in pieces))
+        with self.assertRaisesRegex(ValueError, 'room = 45'):
+            vektrid.listing_pieces(EXAMPLE, 45)
+
+    def test_any_buffer_of_bytes(self):
+        for file in (bytearray(EXAMPLE), memoryview(EXAMPLE), array.array('B', EXAMPLE), memoryview(bytes(2) + EXAMPLE)[2:]):
+            self.assertEqual(vektrid.listing(file), EXAMPLE_LISTING)
+        for wrong in ('text', 64, None, [0] * 32, array.array('I', 16 * [0])):
+            for call in (vektrid.judge, vektrid.visits, vektrid.listing, vektrid.listing_pieces):
+                self.assertRaisesRegex(TypeError, 'bytes', call, wrong)
+
+    def test_len_of_a_subclass_is_not_believed(self):
+        class Otherwise(bytes):
+            def __len__(self):
+                return 40
+        self.assertEqual(vektrid.listing(Otherwise(EXAMPLE)), EXAMPLE_LISTING)
+
+    def test_changed_while_listed(self):
+        file = bytearray(EXAMPLE)
+        visits, pieces = vektrid.visits(file), vektrid.listing_pieces(file, 46)
+        file[:] = bytes(64)
+        self.assertEqual(len(list(visits)), 4)
+        self.assertEqual(b''.join(pieces).decode(), EXAMPLE_LISTING)
+
+
+# ---- numbers that do not fit
+
+
+class Arguments(unittest.TestCase):
+    """No argument is cut or rounded on its way to the library."""
+
+    REGION = vektrid.Region(-500, 0, 1000, 800)
+    QUERY = dict(level=32, m=2, a=1, column=1, row=0, block=0)
+    WORDS = [('level', STANDARD.check), ('index', STANDARD.point), ('index', STANDARD.point_singles), ('index', vektrid.standard_point),
+             ('start', lambda value: STANDARD.fill(value, 1)), ('start', lambda value: STANDARD.walk(value, 1)),
+             ('shift x', lambda value: STANDARD.point(0, (value, 0))), ('shift y', lambda value: STANDARD.walk(0, 1, (0, value))),
+             ('shift x', lambda value: STANDARD.fill(0, 1, (value, 0))), ('shift y', lambda value: vektrid.standard_point(0, (0, value))),
+             ('shift x', lambda value: STANDARD.query(32, 2, 1, 1, 0, 0, (value, 0))), ('word', vektrid.double), ('word', vektrid.single),
+             ('words[3]', lambda value: vektrid.Pair(3 * [0] + [value] + 60 * [0])),
+             ('x', lambda value: Arguments.REGION.position(value, 0)), ('y', lambda value: Arguments.REGION.position(0, value)),
+             ('width', lambda value: vektrid.Region(0, 0, value, 1)), ('height', lambda value: vektrid.Region(0, 0, 1, value)),
+             ('room', lambda value: vektrid.listing_pieces(EXAMPLE, value))]
+    WORDS += [(name, lambda value, name=name: STANDARD.query(**{**Arguments.QUERY, name: value})) for name in QUERY]
+    EDGES = [('left', lambda value: vektrid.Region(value, 0, 1, 1)), ('top', lambda value: vektrid.Region(0, value, 1, 1))]
+    COUNTS = [('count', lambda value: STANDARD.fill(0, value)), ('count', lambda value: STANDARD.walk(0, value)),
+              ('count', lambda value: STANDARD.walk_singles(0, value))]
+
+    def test_no_whole_number(self):
+        for name, call in self.WORDS + self.EDGES + self.COUNTS:
+            for value in (True, False, 1.0, 1.5, '1', None, Fraction(1), float('nan')):
+                with self.subTest(name=name, value=value), self.assertRaisesRegex(TypeError, re.escape(name)):
+                    call(value)
+
+    def test_out_of_range(self):
+        for calls, low, high in ((self.WORDS, 0, LAST), (self.EDGES, -2**31, 2**31 - 1), (self.COUNTS, 0, 2**64 - 1)):
+            for name, call in calls:
+                for value in (low - 1, high + 1, low - 2**32, high + 2**64, 10**5000, -10**5000):
+                    with self.subTest(name=name, value=value if abs(value) < 2**70 else 'long'), self.assertRaises(ValueError) as caught:
+                        call(value)
+                    self.assertNotIsInstance(caught.exception, vektrid.Refusal)
+                    self.assertIn(f'{name} = ', str(caught.exception))
+                    self.assertIn(str(high), str(caught.exception))
+
+    def test_shift_is_two_words(self):
+        for shift in (0, (), (1,), (1, 2, 3), None):
+            self.assertRaisesRegex(TypeError, 'shift', STANDARD.point, 0, shift)
+
+    def test_whole_numbers_of_other_types(self):
+        class Three:
+            def __index__(self):
+                return 3
+        self.assertEqual(STANDARD.point(Three(), shift=[0, 0]), STANDARD.point(3))
+        self.assertEqual(STANDARD.fill(0, Three()), STANDARD.fill(0, 3))
+
+
+# ---- numpy
+
+
+@unittest.skipIf(numpy is None, 'numpy is not installed: its tests are skipped')
+class Numpy(unittest.TestCase):
+
+    def test_in_place(self):
+        xs, ys = numpy.full(101, 7, dtype=numpy.uint32), numpy.full(101, 7, dtype=numpy.uint32)
+        addresses = xs.ctypes.data, ys.ctypes.data
+        given = STANDARD.fill(2**32 - 101, (xs, ys), SHIFTS[2])
+        self.assertIs(given[0], xs)
+        self.assertEqual((xs.ctypes.data, ys.ctypes.data), addresses)
+        self.assertEqual([xs.tolist(), ys.tolist()], list(STANDARD.fill(2**32 - 101, 101, SHIFTS[2])))
+
+    def test_rows_of_one_array(self):
+        both = numpy.zeros((2, 8), dtype=numpy.uint32)
+        STANDARD.fill(0, both)
+        self.assertEqual(both.tolist(), list(STANDARD.fill(0, 8)))
+        part = numpy.full(10, 7, dtype=numpy.uint32)
+        STANDARD.fill(0, (part[1:4], part[4:7]))
+        self.assertEqual(part.tolist(), [7] + STANDARD.fill(0, 3)[0] + STANDARD.fill(0, 3)[1] + [7, 7, 7])
+
+    def test_new_arrays(self):
+        xs, ys = STANDARD.fill(3, 50, SHIFTS[2], numpy=True)
+        self.assertEqual((xs.dtype, ys.dtype, xs.shape), (numpy.uint32, numpy.uint32, (50,)))
+        self.assertEqual([xs.tolist(), ys.tolist()], list(STANDARD.fill(3, 50, SHIFTS[2])))
+        self.assertEqual(len(STANDARD.fill(0, 0, numpy=True)[0]), 0)
+
+    def test_refused_arrays(self):
+        good, words = numpy.full(4, 7, dtype=numpy.uint32), numpy.full(16, 7, dtype=numpy.uint32)
+        frozen = words[:4].copy()
+        frozen.flags.writeable = False
+        misaligned = numpy.frombuffer(bytearray(17), dtype=numpy.uint8)[1:].view(numpy.uint32)
+        wrong = [(kind, 'not 32-bit unsigned') for kind in (words.astype(kind)[:4] for kind in ('i4', 'f4', 'u8', 'i8', 'f8', '>u4', 'u1', 'O'))]
+        wrong += [(words[::4], 'contiguous'), (words[:4][::-1], 'contiguous'), (words.reshape(4, 4), 'one-dimensional'), (frozen, 'not writeable'),
+                  (misaligned, 'not aligned'), (numpy.zeros(4, 'M8[s]'), 'is needed'), (numpy.uint32(7), 'one-dimensional|writeable')]
+        for array_given, message in wrong:
+            with self.subTest(message=message), self.assertRaisesRegex(TypeError, message):
+                STANDARD.fill(0, (array_given, good))
+            with self.subTest(message=message), self.assertRaisesRegex(TypeError, message):
+                STANDARD.fill(0, (good, array_given))
+        self.assertEqual(good.tolist() + words.tolist(), 20 * [7])
+
+    def test_refusals_leave_arrays(self):
+        words = numpy.full(9, 7, dtype=numpy.uint32)
+        self.assertRaises(vektrid.BufferLengths, STANDARD.fill, 0, (words[:4], words[4:]))
+        self.assertRaises(vektrid.IndexRange, STANDARD.fill, LAST, (words[:4], words[4:8]))
+        self.assertRaisesRegex(ValueError, 'overlap', STANDARD.fill, 0, (words[:4], words[3:7]))
+        self.assertEqual(words.tolist(), 9 * [7])
+
+    def test_numbers(self):
+        self.assertEqual(STANDARD.point(numpy.uint32(5), (numpy.uint64(0), numpy.int8(0))), STANDARD.point(5))
+        self.assertEqual(vektrid.Pair(numpy.array(STANDARD.words, dtype=numpy.uint32)), STANDARD)
+        self.assertRaises(ValueError, STANDARD.point, numpy.int64(-1))
+        self.assertRaises(ValueError, STANDARD.point, numpy.uint64(2**32))
+        for value in (numpy.float64(1), numpy.bool_(True)):
+            self.assertRaises(TypeError, STANDARD.point, value)
+
+
+# ---- the library and the header
+
+
+def header():
+    with open(os.path.join(ROOT, 'include', 'vektrid.h'), encoding='utf-8') as file:
+        return re.sub(r'/\*.*?\*/', '', file.read(), flags=re.S)
+
+
+class Interface(unittest.TestCase):
+
+    KINDS = {'uint32_t': ctypes.c_uint32, 'uint64_t': ctypes.c_uint64, 'int32_t': ctypes.c_int32, 'size_t': ctypes.c_size_t, 'float': ctypes.c_float,
+             'double': ctypes.c_double, 'void': None, 'uint8_t': ctypes.c_uint8, 'vektrid_place': vektrid._Place, 'vektrid_cursor': vektrid._Cursor}
+
+    def kind(self, declared):
+        """The ctypes type of a parameter of the header."""
+        name = re.sub(r'\bconst\b', '', declared).split()[0]
+        if '*' not in declared:
+            return self.KINDS[name]
+        return ctypes.c_char_p if declared.startswith('const uint8_t') else ctypes.POINTER(self.KINDS[name])
+
+    def test_each_call_of_the_header(self):
+        calls = re.findall(r'^(\w+) (vektrid_\w+)\((.*?)\);', header(), flags=re.S | re.M)
+        self.assertEqual({name for _, name, _ in calls}, set(vektrid._CALLS))
+        for answer, name, parameters in calls:
+            call = getattr(vektrid._library, name)
+            self.assertIs(call.restype, self.KINDS[answer])
+            self.assertEqual(call.argtypes, [self.kind(each.strip()) for each in parameters.split(',')], name)
+
+    def test_structures(self):
+        sizes = dict((name, int(size)) for size, name in re.findall(r'uint32_t words\[(\d+)\];\s*\} (\w+);', header()))
+        self.assertEqual(sizes, {'vektrid_place': ctypes.sizeof(vektrid._Place) // 4, 'vektrid_cursor': ctypes.sizeof(vektrid._Cursor) // 4})
+
+    def test_refusals_of_the_header(self):
+        named = {name.replace('_', ''): int(number) for name, number in re.findall(r'VEKTRID_(\w+) = (\d+)', header())}
+        del named['ACCEPTED']
+        named['REGIONLIMITS'] = named.pop('REGION')  # Region is the rectangle here
+        self.assertEqual(named, {kind.__name__.upper(): kind.number for kind in vektrid.Refusal.__subclasses__()})
+
+    def test_documented(self):
+        for name in vektrid.__all__:
+            value = getattr(vektrid, name)
+            if inspect.isclass(value) or inspect.isfunction(value):
+                self.assertTrue(inspect.getdoc(value), name)
+        for kind in (vektrid.Pair, vektrid.Walk, vektrid.Region):
+            for name, value in vars(kind).items():
+                if not name.startswith('_'):
+                    self.assertTrue(inspect.getdoc(value), name)
+
+    def test_example_of_the_module(self):
+        tried = doctest.testmod(vektrid)
+        self.assertEqual((tried.failed, tried.attempted > 3), (0, True))
+
+    def test_numpy_is_not_imported(self):
+        done = self.python('import sys, vektrid; vektrid.Pair.standard().fill(0, 3); print("numpy" in sys.modules)', HERE)
+        self.assertEqual(done.stdout, 'False\n')
+
+    def python(self, program, folder, **environment):
+        """Runs a program with the vektrid.py of a folder; VEKTRID_LIBRARY is set only if it is given."""
+        kept = {name: value for name, value in os.environ.items() if name != 'VEKTRID_LIBRARY'}
+        return subprocess.run([sys.executable, '-B', '-c', program], env={**kept, 'PYTHONPATH': folder, **environment}, cwd=folder,
+                              stdout=subprocess.PIPE, stderr=subprocess.PIPE, universal_newlines=True)
+
+    def test_where_the_library_is_looked_for(self):
+        program = 'import vektrid; print(vektrid.Pair.standard().point(1).x)'
+        with tempfile.TemporaryDirectory() as root:
+            folder, target = os.path.join(root, 'python'), os.path.join(root, 'target')
+            os.mkdir(folder)
+            shutil.copy(vektrid.__file__, folder)
+            self.assertIn('tools/archive', self.python(program, folder).stderr)
+            self.assertEqual(self.python(program, folder, VEKTRID_LIBRARY=vektrid._library._name).stdout, '2147483648\n')
+            beside = os.path.join(folder, 'libvektrid.so')
+            shutil.copy(vektrid._library._name, beside)
+            self.assertEqual(self.python(program, folder).stdout, '2147483648\n')
+            self.assertIn('tools/archive', self.python(program, folder, VEKTRID_LIBRARY=os.path.join(root, 'none.so')).stderr)  # not the one beside
+            os.mkdir(target)
+            shutil.move(beside, target)
+            self.assertEqual(self.python(program, folder).stdout, '2147483648\n')
+
+    def test_another_library(self):
+        for path in (vektrid.__file__, HERE, _ctypes.__file__):  # no library, a folder, and a library without the calls
+            done = self.python('import vektrid', HERE, VEKTRID_LIBRARY=path)
+            self.assertIn('ImportError', done.stderr)
+            self.assertIn('tools/archive', done.stderr)
+
+
+if __name__ == '__main__':
+    unittest.main()

@@ -1,0 +1,677 @@
+"""Vektrid, the proved visit planner, in Python: points of a (0,2)-sequence and back, stage positions, region files.
+
+Every answer comes from the proved library, target/libvektrid.so (tools/archive makes it; its C interface is include/vektrid.h). This file only
+converts: it keeps from the library what the proofs assume cannot happen (a number that does not fit, a pointer to nothing, buffers that overlap).
+
+A call that document 01 refuses raises the subclass of Refusal for that refusal, and lent buffers keep their content. A number that is no whole
+number raises TypeError, and one that has no place in the library's 32 or 64 bits raises ValueError; nothing is cut or rounded to fit.
+
+The field's words stand first and 01's beside them: generator matrices (pair), digital shift (scramble), elementary interval (cell), cursor (walk).
+A word is a whole number from 0 to 2^32 - 1; a coordinate word w stands for w / 2^32. Only the standard library is needed; numpy is used if asked for.
+
+>>> import vektrid
+>>> pair = vektrid.Pair.standard()
+>>> pair.point(5)
+Point(x=2684354560, y=536870912)
+>>> pair.query(32, 2, 1, column=1, row=0, block=1)
+5
+>>> vektrid.Region(-500, 0, 1000, 800).position(0x40000000, 0xC0000000)
+Position(x=-250, y=600)
+>>> pair.check(33)
+Traceback (most recent call last):
+vektrid.Level: refusal 2: level = 33 is not 1 to 32
+"""
+import collections
+import ctypes
+import operator
+import os
+import struct
+import sys
+from typing import NamedTuple
+
+__all__ = ['Refusal', 'WordCount', 'Level', 'NotNet', 'Size', 'Shape', 'Cell', 'Block', 'BufferLengths', 'IndexRange', 'RegionLimits',
+           'FileLength', 'Header', 'MissingRecord', 'ChainReturns', 'VisitCount', 'Point', 'Singles', 'Visit', 'SinglesVisit', 'Position',
+           'FileVisit', 'Pair', 'Walk', 'SinglesWalk', 'Region', 'standard_point', 'double', 'single', 'judge', 'visits', 'listing',
+           'listing_pieces', 'LARGEST_LEVEL', 'LAST_INDEX', 'LONGEST_LINE']
+
+LARGEST_LEVEL = 32
+LAST_INDEX = 2**32 - 1  # and the largest word
+LONGEST_LINE = 46  # bytes of the longest line of a listing: a piece must have room for it
+
+
+# ---- refusals: one class for each line of document 01's table
+
+
+class Refusal(ValueError):
+    """A call that document 01 refuses. `number` is its number in 01's table, `given` the values that the message names."""
+    number = 0
+    words = ''
+
+    def __init__(self, **given):
+        super().__init__(f'refusal {self.number}: ' + self.words.format(**given))
+        self.given = given
+
+    def __reduce__(self):  # the message is made of the values, so they are what is pickled
+        return _refusal, (self.number, self.given)
+
+
+class WordCount(Refusal):
+    """1: a pair of generator matrices is not 64 words."""
+    number = 1
+    words = 'a pair has 64 words (32 columns of X, then 32 of Y), and {count} were given'
+
+
+class Level(Refusal):
+    """2: a level is not 1 to 32."""
+    number = 2
+    words = 'level = {level} is not 1 to 32'
+
+
+class NotNet(Refusal):
+    """3: the matrices are no net. (m, a) is the shape whose determinant is even; j is the least index above 0 in the cell of index 0."""
+    number = 3
+    words = 'not a net: in the shape (m, a) = ({m}, {a}) the point of index j = {j} shares the cell of index 0'
+
+    m = property(lambda self: self.given['m'], doc='The shape has 2^m cells.')
+    a = property(lambda self: self.given['a'], doc='The shape has 2^a columns.')
+    j = property(lambda self: self.given['j'], doc='The least index above 0 and below 2^m that shares the cell of index 0.')
+
+
+class Size(Refusal):
+    """4: m is above the level."""
+    number = 4
+    words = 'm = {m} is above the level {level}'
+
+
+class Shape(Refusal):
+    """5: a is above m."""
+    number = 5
+    words = 'a = {a} is above m = {m}'
+
+
+class Cell(Refusal):
+    """6: an elementary interval (01: cell) is outside its shape: column >= 2^a or row >= 2^(m-a)."""
+    number = 6
+    words = 'column = {column}, row = {row} is no cell of the shape (m, a) = ({m}, {a}), which has 2^{a} columns and 2^{rest} rows'
+
+
+class Block(Refusal):
+    """7: a block is past the last one: block >= 2^(32-m)."""
+    number = 7
+    words = 'block = {block} is past the last block of 2^{m} visits: there are 2^{rest}, from 0 on'
+
+
+class BufferLengths(Refusal):
+    """8: two lent buffers differ in length."""
+    number = 8
+    words = 'xs has {xs} words and ys has {ys}; the lengths must be equal'
+
+
+class IndexRange(Refusal):
+    """9: start + count is above 2^32, so the visits would go past the last index."""
+    number = 9
+    words = 'start = {start} and count = {count} go past the last index, 4294967295'
+
+
+class RegionLimits(Refusal):
+    """10: an edge or an extent of a region is outside its limits."""
+    number = 10
+    words = ('{where}left = {left}, top = {top}, width = {width}, height = {height} is no region: '
+             'edges are -1000000 to 1000000 micrometres, width and height 1 to 1000000')
+
+
+class FileLength(Refusal):
+    """11: a region file is empty, over 65,536 bytes, or not whole records of 32 bytes."""
+    number = 11
+    words = 'a file of {size} bytes is no region file: it has whole records of 32 bytes, at least one, and at most 65536 bytes'
+
+
+class Header(Refusal):
+    """12: bytes 8 to 31 of record 0 of a region file are not all zero."""
+    number = 12
+    words = 'byte {place} of record 0 is {byte}; bytes 8 to 31 must be 0'
+
+
+class MissingRecord(Refusal):
+    """13: the chain of a region file names a record that the file lacks."""
+    number = 13
+    words = 'record {at} names record {link} as the next of the chain, and the last record of the file is {last}'
+
+
+class ChainReturns(Refusal):
+    """14: the chain of a region file returns to a record."""
+    number = 14
+    words = 'record {at} names record {link} as the next of the chain, which has been there already'
+
+
+class VisitCount(Refusal):
+    """15: a record of a region file has more than 4,096 visits."""
+    number = 15
+    words = 'record {link} has {count} visits; at most 4096 are allowed'
+
+
+_REFUSALS = {kind.number: kind for kind in Refusal.__subclasses__()}
+
+
+def _refusal(number, given):
+    """The refusal with a number, and the values that it names."""
+    if number not in _REFUSALS:
+        raise RuntimeError(f'the library answered {number}, which vektrid.py does not know: they are not of one version')
+    return _REFUSALS[number](**given)
+
+
+def _accept(number, **given):
+    """Raises the refusal that a call of the library answered, if it is one."""
+    if number:
+        raise _refusal(number, given)
+
+
+# ---- what the calls give
+
+
+class Point(NamedTuple):
+    """The two coordinate words of an index; a word w stands for w / 2^32."""
+    x: int
+    y: int
+
+
+class Singles(NamedTuple):
+    """Both coordinates as IEEE 754 singles, from 0 up to and without 1: each the largest single not above word / 2^32."""
+    x: float
+    y: float
+
+
+class Visit(NamedTuple):
+    """An index with its point, as coordinate words."""
+    index: int
+    x: int
+    y: int
+
+
+class SinglesVisit(NamedTuple):
+    """An index with its point, as singles."""
+    index: int
+    x: float
+    y: float
+
+
+class Position(NamedTuple):
+    """A place of the stage in micrometres: the corner of the reader's field."""
+    x: int
+    y: int
+
+
+class FileVisit(NamedTuple):
+    """A visit of a region file: the record's number in the file, the index in that record, and the position in micrometres."""
+    record: int
+    index: int
+    x: int
+    y: int
+
+
+# ---- the library
+
+
+class _Place(ctypes.Structure):
+    _fields_ = [('words', ctypes.c_uint32 * 11)]
+
+
+class _Cursor(ctypes.Structure):
+    _fields_ = [('words', ctypes.c_uint32 * 13)]
+
+
+_WORD, _LONG, _SIGNED, _SIZE = ctypes.c_uint32, ctypes.c_uint64, ctypes.c_int32, ctypes.c_size_t
+_SINGLE, _FILE = ctypes.c_float, [ctypes.c_char_p, ctypes.c_size_t]  # a file is lent as bytes, which no call writes
+_TO_WORD, _TO_LONG, _TO_SIGNED, _TO_SINGLE = (ctypes.POINTER(kind) for kind in (_WORD, _LONG, _SIGNED, _SINGLE))
+_PAIR = [_TO_WORD, _SIZE, _WORD, _WORD]  # the words, how many, and the two words of the shift
+
+# For each call of include/vektrid.h: the type of its answer, and those of its arguments.
+_CALLS = {
+    'vektrid_standard_pair': (_WORD, [_TO_WORD, _SIZE]),
+    'vektrid_check': (_WORD, [_TO_WORD, _SIZE, _WORD] + 3 * [_TO_WORD]),
+    'vektrid_point': (_WORD, _PAIR + [_WORD, _TO_WORD, _TO_WORD]),
+    'vektrid_standard_point': (None, [_WORD, _WORD, _WORD, _TO_WORD, _TO_WORD]),
+    'vektrid_fill': (_WORD, _PAIR + [_WORD, _TO_WORD, _SIZE, _TO_WORD, _SIZE]),
+    'vektrid_walk_open': (_WORD, [_WORD, _LONG, _TO_WORD, _TO_LONG]),
+    'vektrid_walk_step': (_WORD, _PAIR + [_TO_WORD, _TO_LONG, _TO_WORD, _TO_WORD, _TO_WORD, _TO_WORD]),
+    'vektrid_walk_step_singles': (_WORD, _PAIR + [_TO_WORD, _TO_LONG, _TO_WORD, _TO_WORD, _TO_SINGLE, _TO_SINGLE]),
+    'vektrid_query': (_WORD, _PAIR + 6 * [_WORD] + [_TO_WORD, _TO_WORD]),
+    'vektrid_double': (ctypes.c_double, [_WORD]),
+    'vektrid_single': (_SINGLE, [_WORD]),
+    'vektrid_point_singles': (_WORD, _PAIR + [_WORD, _TO_SINGLE, _TO_SINGLE]),
+    'vektrid_position': (_WORD, [_SIGNED, _SIGNED] + 4 * [_WORD] + [_TO_SIGNED, _TO_SIGNED]),
+    'vektrid_judge': (_WORD, _FILE),
+    'vektrid_visits_open': (_WORD, _FILE + [ctypes.POINTER(_Place)]),
+    'vektrid_visits_step': (None, _FILE + [ctypes.POINTER(_Place)] + 3 * [_TO_WORD] + 2 * [_TO_SIGNED]),
+    'vektrid_listing_open': (None, _FILE + [ctypes.POINTER(_Cursor)]),
+    'vektrid_listing_page': (_SIZE, _FILE + [ctypes.POINTER(_Cursor), ctypes.POINTER(ctypes.c_uint8), _SIZE]),
+}
+
+
+def _library_path():
+    """Where the library is: VEKTRID_LIBRARY, which is taken as it stands; else in the repository; else beside this file."""
+    named = os.environ.get('VEKTRID_LIBRARY')
+    if named:
+        return named
+    here = os.path.dirname(os.path.realpath(__file__))
+    places = [os.path.join(os.path.dirname(here), 'target', 'libvektrid.so'), os.path.join(here, 'libvektrid.so')]
+    for path in places:
+        if os.path.isfile(path):
+            return path
+    raise ImportError(f'Vektrid\'s library is neither at {places[0]} nor at {places[1]}: '
+                      'run tools/archive in the repository, or set VEKTRID_LIBRARY to where it is')
+
+
+def _load():
+    """The library, each call with its types."""
+    path = _library_path()
+    try:
+        library = ctypes.CDLL(os.path.abspath(path))
+        for name, (answer, arguments) in _CALLS.items():
+            call = getattr(library, name)
+            call.restype, call.argtypes = answer, arguments
+    except (OSError, AttributeError) as error:  # not there, not a library, or a library without one of the calls
+        raise ImportError(f'Vektrid\'s library cannot be used from {path} ({error}): run tools/archive in the repository to make it') from error
+    return library
+
+
+_library = _load()
+
+
+# ---- what is let through to the library
+
+
+def _whole(name, value, low=0, high=LAST_INDEX):
+    """An argument as an int within the library's type. ctypes would cut it to fit without a word."""
+    if isinstance(value, bool) or type(value).__name__ == 'bool_':  # numpy's, which some versions take for a number
+        raise TypeError(f'{name} = {value} is a truth value; a whole number from {low} to {high} is needed')
+    try:
+        number = operator.index(value)
+    except TypeError:
+        raise TypeError(f'{name} = {value!r} is no whole number; one from {low} to {high} is needed') from None
+    if not low <= number <= high:
+        shown = number if number.bit_length() < 256 else f'a number of {number.bit_length()} bits'  # Python does not print the longest
+        raise ValueError(f'{name} = {shown} does not fit: the library takes {low} to {high}')
+    return number
+
+
+def _shift(shift):
+    """The two words of a digital shift."""
+    try:
+        x, y = shift
+    except (TypeError, ValueError):
+        raise TypeError(f'shift = {shift!r} is not two words, one for each axis') from None
+    return _whole('shift x', x), _whole('shift y', y)
+
+
+def _lent(name, buffer):
+    """A lent buffer: its first word, in place and held there as long as that object lives, and the number of its words."""
+    try:
+        view = memoryview(buffer)
+    except (TypeError, ValueError):
+        raise TypeError(f'{name} is a {type(buffer).__name__}; a numpy array of uint32, an array.array("I") or a ctypes array '
+                        'of c_uint32 is needed') from None
+    native = '@=<' if sys.byteorder == 'little' else '@=>!'
+    if view.itemsize not in (0, 4) or view.format.lstrip(native) not in ('I', 'L'):  # 0: an empty ctypes array, before Python 3.10
+        raise TypeError(f'{name} has items of type {view.format}, not 32-bit unsigned words (uint32, array.array("I"), c_uint32)')
+    if view.ndim != 1 or not view.c_contiguous:
+        raise TypeError(f'{name} is not one-dimensional and contiguous')
+    if view.readonly:
+        raise TypeError(f'{name} is not writeable')
+    if len(view) == 0:
+        return ctypes.c_uint32(), 0  # an empty buffer may have no address
+    first = ctypes.c_uint32.from_buffer(view)
+    if ctypes.addressof(first) % ctypes.alignment(ctypes.c_uint32):
+        raise TypeError(f'{name} is not aligned to whole words')
+    return first, len(view)
+
+
+def _apart(xs, xs_count, ys, ys_count):
+    """Refuses buffers that share a word: the proofs speak of buffers apart from each other."""
+    x, y = ctypes.addressof(xs), ctypes.addressof(ys)
+    if x < y + 4 * ys_count and y < x + 4 * xs_count:
+        raise ValueError('xs and ys overlap; two buffers apart from each other are needed')
+
+
+def _content(file):
+    """The bytes of a region file. A buffer that may change is copied, so that an iterator over it goes on with what it began with."""
+    if type(file) is bytes:  # and no subclass, whose len may be anything
+        return file
+    try:
+        view = memoryview(file)
+    except (TypeError, ValueError):
+        raise TypeError(f'file is a {type(file).__name__}; its content is needed as bytes') from None
+    if view.itemsize != 1:
+        raise TypeError(f'file has items of {view.itemsize} bytes (type {view.format}); its content is needed as bytes')
+    return view.tobytes()
+
+
+# ---- generator matrices: points, fills, walks, queries
+
+
+class Pair:
+    """Two generator matrices (01: pair), copied from 64 words: the 32 columns of X, then those of Y. Never changes.
+
+    Column c belongs to index bit c, and the top bit of a word is row 0. A coordinate of an index is the exclusive or of the columns whose
+    index bit is set, and then of that axis's word of the digital shift (01: scramble). Points, fills and walks take any matrices, checked or not.
+
+    Refused: WordCount.
+    """
+    __slots__ = ('_words',)
+
+    def __init__(self, words):
+        checked = [_whole(f'words[{place}]', word) for place, word in enumerate(words)]
+        self._words = (ctypes.c_uint32 * len(checked))(*checked)
+        self.point(0)  # any call refuses another number of words
+
+    @classmethod
+    def standard(cls):
+        """The standard pair: the identity, and Pascal's triangle modulo 2. It passes every level."""
+        words = (ctypes.c_uint32 * 64)()
+        _accept(_library.vektrid_standard_pair(words, len(words)), count=len(words))
+        return cls(words)
+
+    @property
+    def words(self):
+        """The 64 words, columns of X first, as a tuple."""
+        return tuple(self._words)
+
+    def __eq__(self, other):
+        return self.words == other.words if isinstance(other, Pair) else NotImplemented
+
+    def __hash__(self):
+        return hash(self.words)
+
+    def __reduce__(self):
+        return type(self), (self.words,)
+
+    def __repr__(self):
+        return f'Pair([{", ".join(f"0x{word:08X}" for word in self._words)}])'
+
+    def _under(self, shift):
+        """The first arguments of most calls: the words, how many they are, and the shift."""
+        return (self._words, len(self._words)) + _shift(shift)
+
+    def check(self, level):
+        """Passes if every block of 2^m visits, m up to the level, is a net: one visit in every elementary interval (01: cell) of every shape.
+
+        Gives None. Refused: Level; NotNet, with the first bad shape (m, a), m rising and then a rising, and its least index j.
+        """
+        level = _whole('level', level)
+        m, a, j = (ctypes.c_uint32() for _ in range(3))
+        number = _library.vektrid_check(self._words, len(self._words), level, m, a, j)
+        _accept(number, level=level, m=m.value, a=a.value, j=j.value)
+
+    def _point(self, call, kind, index, shift):
+        x, y = kind(), kind()
+        number = call(*self._under(shift), _whole('index', index), x, y)
+        _accept(number, count=len(self._words))
+        return x.value, y.value
+
+    def point(self, index, shift=(0, 0)):
+        """The Point of an index under a digital shift (01: scramble): two coordinate words. The index is 0 to 2^32 - 1. Nothing is refused."""
+        return Point(*self._point(_library.vektrid_point, ctypes.c_uint32, index, shift))
+
+    def point_singles(self, index, shift=(0, 0)):
+        """The point of an index as Singles: both coordinates as numbers from 0 up to and without 1. Nothing is refused."""
+        return Singles(*self._point(_library.vektrid_point_singles, ctypes.c_float, index, shift))
+
+    def fill(self, start, into, shift=(0, 0), numpy=False):
+        """The points of the indexes from `start` on, as two buffers of coordinate words. Gives (xs, ys).
+
+        `into` is either two buffers (xs, ys), which are filled in place, every word of them and without a copy; or a count, and then two lists
+        are given, or with numpy=True two numpy arrays of uint32. Buffers are numpy arrays of uint32, array.array('I') or ctypes arrays of
+        c_uint32, one-dimensional, contiguous and writeable (else TypeError), and must not overlap (else ValueError).
+
+        Refused: BufferLengths, IndexRange; the buffers then keep their content.
+        """
+        start = _whole('start', start)
+        if not hasattr(type(into), '__len__'):
+            return self._fill_new(start, into, shift, numpy)
+        try:
+            xs, ys = into
+        except (TypeError, ValueError):
+            raise TypeError('a fill takes a count, or two buffers (xs, ys)') from None
+        self._fill(start, _lent('xs', xs), _lent('ys', ys), shift)
+        return xs, ys
+
+    def _fill(self, start, lent_xs, lent_ys, shift):
+        """Fills two buffers in place, each given as _lent gives it."""
+        _apart(*lent_xs, *lent_ys)
+        (xs, xs_count), (ys, ys_count) = lent_xs, lent_ys
+        number = _library.vektrid_fill(*self._under(shift), start, xs, xs_count, ys, ys_count)
+        _accept(number, xs=xs_count, ys=ys_count, start=start, count=xs_count)
+
+    def _fill_new(self, start, count, shift, numpy):
+        """Two new lists or numpy arrays."""
+        count = Walk(self, start, count, shift).left  # a walk is refused as the fill would be, before there is memory for it
+        if numpy:
+            import numpy as np
+            xs, ys = np.empty(count, dtype=np.uint32), np.empty(count, dtype=np.uint32)
+        else:
+            xs, ys = (ctypes.c_uint32 * count)(), (ctypes.c_uint32 * count)()
+        self._fill(start, _lent('xs', xs), _lent('ys', ys), shift)
+        return (xs, ys) if numpy else (xs[:], ys[:])
+
+    def walk(self, start, count, shift=(0, 0)):
+        """A Walk over `count` visits from index `start` on: an iterator of Visit. Refused: IndexRange."""
+        return Walk(self, start, count, shift)
+
+    def walk_singles(self, start, count, shift=(0, 0)):
+        """The same with each point as singles: an iterator of SinglesVisit. Refused: IndexRange."""
+        return SinglesWalk(self, start, count, shift)
+
+    def query(self, level, m, a, column, row, block, shift=(0, 0)):
+        """The one index of a block whose point lies in an elementary interval (01: cell). Gives an int.
+
+        The shape (m, a) has 2^a columns and 2^(m-a) rows. A point's column is the top a bits of its x, its row the top m-a bits of its y.
+        Block k has the indexes from k * 2^m to (k+1) * 2^m - 1. The level only bounds m; the pair need not be checked before.
+
+        Refused, in this order: Level, Size, Shape, Cell, Block, NotNet (with this shape and its least index j).
+        """
+        names = ('level', 'm', 'a', 'column', 'row', 'block')
+        given = {name: _whole(name, value) for name, value in zip(names, (level, m, a, column, row, block))}
+        index, j = ctypes.c_uint32(), ctypes.c_uint32()
+        number = _library.vektrid_query(*self._under(shift), *given.values(), index, j)
+        if number:
+            rest = 32 - given['m'] if number == Block.number else given['m'] - given['a']
+            _accept(number, j=j.value, rest=rest, **given)
+        return index.value
+
+
+class Walk:
+    """A cursor over visits (01: walk), made by Pair.walk: an iterator of Visit, from the start index on.
+
+    `next` is the index of the next visit and `left` how many visits are left. pair.walk(walk.next, walk.left, shift) goes on from there.
+    """
+    __slots__ = ('_pair', '_shift', '_next', '_left')
+
+    def __init__(self, pair, start, count, shift):
+        start, count = _whole('start', start), _whole('count', count, high=2**64 - 1)
+        self._pair, self._shift = pair, _shift(shift)
+        following, left = ctypes.c_uint32(), ctypes.c_uint64()
+        _accept(_library.vektrid_walk_open(start, count, following, left), start=start, count=count)
+        self._next, self._left = following.value, left.value
+
+    @property
+    def next(self):
+        """The index of the next visit. After the visit of index 2^32 - 1 it stays there."""
+        return self._next
+
+    @property
+    def left(self):
+        """How many visits are left."""
+        return self._left
+
+    def _step(self, call, kind):
+        """Moves on; gives the index and both coordinates, or None where the walk has ended."""
+        following, left = ctypes.c_uint32(self._next), ctypes.c_uint64(self._left)
+        given, index, x, y = ctypes.c_uint32(), ctypes.c_uint32(), kind(), kind()
+        number = call(*self._pair._under(self._shift), following, left, given, index, x, y)
+        _accept(number, count=len(self._pair._words))
+        self._next, self._left = following.value, left.value
+        return (index.value, x.value, y.value) if given.value else None
+
+    def step(self):
+        """The next Visit, or None where the walk has ended; it then changes nothing."""
+        stepped = self._step(_library.vektrid_walk_step, ctypes.c_uint32)
+        return stepped and Visit(*stepped)
+
+    def step_singles(self):
+        """The next visit with its point as singles, a SinglesVisit, or None where the walk has ended."""
+        stepped = self._step(_library.vektrid_walk_step_singles, ctypes.c_float)
+        return stepped and SinglesVisit(*stepped)
+
+    def __iter__(self):
+        return self
+
+    def __next__(self):
+        visit = self.step()
+        if visit is None:
+            raise StopIteration
+        return visit
+
+    def __repr__(self):
+        return f'<{type(self).__name__} next={self._next} left={self._left}>'
+
+
+class SinglesWalk(Walk):
+    """A cursor over visits (01: walk), made by Pair.walk_singles: an iterator of SinglesVisit."""
+    __slots__ = ()
+
+    def __next__(self):
+        visit = self.step_singles()
+        if visit is None:
+            raise StopIteration
+        return visit
+
+
+def standard_point(index, shift=(0, 0)):
+    """The Point of an index of the standard pair, by the fast way: the same as Pair.standard().point(index, shift). Nothing is refused."""
+    x, y = ctypes.c_uint32(), ctypes.c_uint32()
+    _library.vektrid_standard_point(*_shift(shift), _whole('index', index), x, y)
+    return Point(x.value, y.value)
+
+
+# ---- unit numbers
+
+
+def double(word):
+    """A coordinate word divided by 2^32, exactly: a float from 0 up to and without 1. Nothing is refused."""
+    return _library.vektrid_double(_whole('word', word))
+
+
+def single(word):
+    """The largest IEEE 754 single not above word / 2^32, as a float. It lies in the word's own strip for up to 24 bits. Nothing is refused."""
+    return _library.vektrid_single(_whole('word', word))
+
+
+# ---- the stage
+
+
+class Region(collections.namedtuple('Region', 'left top width height')):
+    """A rectangle of the stage in micrometres: its left and top edge, -1,000,000 to 1,000,000, its width and height, 1 to 1,000,000.
+
+    Refused: RegionLimits.
+    """
+    __slots__ = ()
+
+    def __new__(cls, left, top, width, height):
+        region = super().__new__(cls, left, top, width, height)
+        region.position(0, 0)  # judges the limits
+        return region
+
+    def position(self, x, y):
+        """Where a point with coordinate words x and y lies: the Position left + floor(x * width / 2^32), and likewise down, in micrometres."""
+        edges = [_whole(name, value, -2**31, 2**31 - 1) for name, value in (('left', self.left), ('top', self.top))]
+        extents = [_whole(name, value) for name, value in (('width', self.width), ('height', self.height))]
+        at_x, at_y = ctypes.c_int32(), ctypes.c_int32()
+        number = _library.vektrid_position(*edges, *extents, _whole('x', x), _whole('y', y), at_x, at_y)
+        _accept(number, where='', **self._asdict())
+        return Position(at_x.value, at_y.value)
+
+
+# ---- region files
+
+
+def _chain_fault(number, file):
+    """Where on the chain of a refused file the refusal is due, for its message: the library has judged, and this looks for the place."""
+    records = len(file) // 32
+    at, link, count, seen = 0, struct.unpack_from('<I', file)[0], 0, set()
+    region = dict.fromkeys(Region._fields, 0)
+    while 0 < link < records and link not in seen:
+        seen.add(link)
+        following, left, top, width, height, _, _, count = struct.unpack_from('<IiiIIIII', file, 32 * link)
+        region = dict(left=left, top=top, width=width, height=height)
+        outside = _library.vektrid_position(left, top, width, height, 0, 0, ctypes.c_int32(), ctypes.c_int32())
+        if (number == RegionLimits.number and outside) or (number == VisitCount.number and count > 4096):
+            break
+        at, link = link, following
+    return dict(at=at, link=link, last=records - 1, count=count, where=f'record {link}: ', **region)
+
+
+def _accept_file(number, file):
+    """Raises the refusal of a file, with the values that it is about."""
+    if number == FileLength.number:
+        _accept(number, size=len(file))
+    elif number == Level.number:
+        _accept(number, level=struct.unpack_from('<I', file, 4)[0])
+    elif number == Header.number:
+        place = next(place for place in range(8, 32) if file[place])
+        _accept(number, place=place, byte=file[place])
+    elif number:
+        _accept(number, **_chain_fault(number, file))
+
+
+def judge(file):
+    """Judges a whole region file, given as bytes. Gives None.
+
+    Refused: FileLength, Level, Header, then at each link of the chain MissingRecord, ChainReturns, RegionLimits, VisitCount.
+    """
+    file = _content(file)
+    _accept_file(_library.vektrid_judge(file, len(file)), file)
+
+
+def visits(file):
+    """An iterator over the visits of a region file, given as bytes: FileVisit (record, index, x, y), positions in micrometres, in listing order.
+
+    The file is judged at once. Refused: as judge says.
+    """
+    file, place = _content(file), _Place()
+    _accept_file(_library.vektrid_visits_open(file, len(file), place), file)
+    return _visits_from(file, place)
+
+
+def _visits_from(file, place):
+    given, record, index = (ctypes.c_uint32() for _ in range(3))
+    x, y = ctypes.c_int32(), ctypes.c_int32()
+    while True:
+        _library.vektrid_visits_step(file, len(file), place, given, record, index, x, y)
+        if not given.value:
+            return
+        yield FileVisit(record.value, index.value, x.value, y.value)
+
+
+def listing(file):
+    """The listing of a region file, given as bytes, as text: what the program prints. Positions are in micrometres.
+
+    A refused file is listed too, as the one line `refused`, a space and the number; judge raises the refusal instead.
+    """
+    return b''.join(listing_pieces(file)).decode('ascii')
+
+
+def listing_pieces(file, room=65536):
+    """The listing as an iterator of pieces, each of whole lines, as bytes, and at most `room` bytes long (46, the longest line, or more)."""
+    file, cursor = _content(file), _Cursor()
+    room = _whole('room', room, low=LONGEST_LINE)
+    _library.vektrid_listing_open(file, len(file), cursor)
+    return _pieces_from(file, cursor, room)
+
+
+def _pieces_from(file, cursor, room):
+    page = (ctypes.c_uint8 * room)()
+    while True:
+        written = _library.vektrid_listing_page(file, len(file), cursor, page, room)
+        if not written:
+            return
+        yield ctypes.string_at(page, written)
