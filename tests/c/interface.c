@@ -1,0 +1,587 @@
+/* Tests of every call of include/vektrid.h: each refusal under its number, what a refused call leaves as it was, and document 01's known points
+ * and example listing. C99, C11 and C++17 compile it; tests/c/run does, and runs it.
+ *
+ * What is expected is 01's: its examples, or its definitions written out again here (column_of, point_of).
+ */
+#include <stdio.h>
+#include <string.h>
+
+#include "vektrid.h"
+
+#define LAST 0xFFFFFFFFu
+#define KEPT 0xA5A5A5A5u /* what stands in lent words before a call that must not write them */
+#define BYTE_KEPT 0xA5u
+
+static unsigned checks, failures;
+static unsigned refused[16]; /* how often each refusal was given where it is due */
+
+static int check(int holds, const char *claim, const char *file, int line) {
+    checks++;
+    if (!holds) {
+        failures++;
+        printf("%s:%d: not so: %s\n", file, line, claim);
+    }
+    return holds;
+}
+
+#define CHECK(claim) ((void)check((claim) ? 1 : 0, #claim, __FILE__, __LINE__))
+
+/* The call is refused under that number. */
+#define REFUSES(number, call) \
+    ((void)(refused[number] += (unsigned)check((call) == (uint32_t)(number), #call " is refused under " #number, __FILE__, __LINE__)))
+
+/* ---- pairs and points by 01's definitions */
+
+static uint32_t standard[64], identities[64], zeros[64];
+
+/* Column c of X or Y of the standard pair: Y has a one in row r where "c over r" is odd, which is where the bits of r are bits of c. */
+static uint32_t column_of(int axis, uint32_t c) {
+    uint32_t word = 0;
+    for (uint32_t r = 0; r < 32; r++)
+        if (axis == 0 ? r == c : (r & c) == r)
+            word |= 1u << (31 - r);
+    return word;
+}
+
+static void make_pairs(void) {
+    for (uint32_t c = 0; c < 32; c++) {
+        standard[c] = identities[c] = identities[32 + c] = column_of(0, c);
+        standard[32 + c] = column_of(1, c);
+        zeros[c] = zeros[32 + c] = 0;
+    }
+}
+
+/* The exclusive or of the columns whose index bit is set, and of the shift. */
+static uint32_t point_of(const uint32_t *columns, uint32_t shift, uint32_t index) {
+    for (int bit = 0; bit < 32; bit++)
+        if (index >> bit & 1u)
+            shift ^= columns[bit];
+    return shift;
+}
+
+/* The top bits of a word; none of the bits means 0. */
+static uint32_t top(uint32_t word, uint32_t bits) { return bits == 0 ? 0 : word >> (32 - bits); }
+
+static uint32_t bits_of(float number) {
+    uint32_t bits;
+    memcpy(&bits, &number, sizeof bits);
+    return bits;
+}
+
+static int all_kept(const uint32_t *words, size_t count) {
+    for (size_t i = 0; i < count; i++)
+        if (words[i] != KEPT)
+            return 0;
+    return 1;
+}
+
+static void keep(uint32_t *words, size_t count) {
+    for (size_t i = 0; i < count; i++)
+        words[i] = KEPT;
+}
+
+/* ---- pairs */
+
+static void standard_pairs(void) {
+    uint32_t words[66];
+    keep(words, 66);
+    REFUSES(1, vektrid_standard_pair(words, 63));
+    REFUSES(1, vektrid_standard_pair(words, 65));
+    REFUSES(1, vektrid_standard_pair(words, 0));
+    CHECK(all_kept(words, 66));
+    CHECK(vektrid_standard_pair(words, 64) == VEKTRID_ACCEPTED);
+    CHECK(memcmp(words, standard, sizeof standard) == 0);
+    CHECK(all_kept(words + 64, 2));
+    CHECK(words[32] == 0x80000000u && words[33] == 0xC0000000u && words[34] == 0xA0000000u && words[35] == 0xF0000000u);
+}
+
+static void checked_pairs(void) {
+    uint32_t out[3]; /* m, a, j */
+    keep(out, 3);
+    REFUSES(1, vektrid_check(standard, 63, 2, &out[0], &out[1], &out[2]));
+    REFUSES(1, vektrid_check(identities, 0, 33, &out[0], &out[1], &out[2]));
+    REFUSES(2, vektrid_check(standard, 64, 33, &out[0], &out[1], &out[2]));
+    REFUSES(2, vektrid_check(identities, 64, 0, &out[0], &out[1], &out[2]));
+    REFUSES(2, vektrid_check(identities, 64, LAST, &out[0], &out[1], &out[2]));
+    CHECK(vektrid_check(standard, 64, 32, &out[0], &out[1], &out[2]) == 0);
+    CHECK(vektrid_check(standard, 64, 1, &out[0], &out[1], &out[2]) == 0);
+    CHECK(vektrid_check(identities, 64, 1, &out[0], &out[1], &out[2]) == 0);
+    CHECK(all_kept(out, 3));
+    REFUSES(3, vektrid_check(identities, 64, 2, &out[0], &out[1], &out[2]));
+    CHECK(out[0] == 2 && out[1] == 1 && out[2] == 2);
+    REFUSES(3, vektrid_check(zeros, 64, 1, &out[0], &out[1], &out[2]));
+    CHECK(out[0] == 1 && out[1] == 0 && out[2] == 1);
+}
+
+/* Only long strips are bad here: X lacks its column 1, and every square shape of level 2 is sound. */
+static void checked_strips(void) {
+    uint32_t words[64], m, a, j;
+    memcpy(words, standard, sizeof words);
+    words[1] = 0;
+    REFUSES(3, vektrid_check(words, 64, 2, &m, &a, &j));
+    CHECK(m == 2 && a == 2 && j == 2);
+}
+
+/* ---- points */
+
+static void known_points(void) {
+    static const uint32_t known[5][3] = {{0, 0, 0},
+                                         {1, 0x80000000u, 0x80000000u},
+                                         {2, 0x40000000u, 0xC0000000u},
+                                         {3, 0xC0000000u, 0x40000000u},
+                                         {5, 0xA0000000u, 0x20000000u}};
+    for (int i = 0; i < 5; i++) {
+        uint32_t x = KEPT, y = KEPT;
+        CHECK(vektrid_point(standard, 64, 0, 0, known[i][0], &x, &y) == 0);
+        CHECK(x == known[i][1] && y == known[i][2]);
+        x = y = KEPT;
+        vektrid_standard_point(0, 0, known[i][0], &x, &y);
+        CHECK(x == known[i][1] && y == known[i][2]);
+    }
+}
+
+static void points(void) {
+    uint32_t index = 0;
+    for (int i = 0; i < 200; i++) {
+        uint32_t x, y, shift_x = index * 5, shift_y = ~index;
+        CHECK(vektrid_point(standard, 64, shift_x, shift_y, index, &x, &y) == 0);
+        CHECK(x == point_of(standard, shift_x, index) && y == point_of(standard + 32, shift_y, index));
+        vektrid_standard_point(shift_x, shift_y, index, &x, &y);
+        CHECK(x == point_of(standard, shift_x, index) && y == point_of(standard + 32, shift_y, index));
+        CHECK(vektrid_point(identities, 64, 0, shift_y, index, &x, &y) == 0); /* no net, and points all the same */
+        CHECK(x == point_of(identities, 0, index) && y == point_of(identities, shift_y, index));
+        index = index * 1664525u + 1013904223u;
+    }
+}
+
+static void refused_points(void) {
+    uint32_t out[2];
+    float singles[2] = {7.0f, 7.0f};
+    keep(out, 2);
+    REFUSES(1, vektrid_point(standard, 63, 0, 0, 1, &out[0], &out[1]));
+    REFUSES(1, vektrid_point(standard, 0, 0, 0, 1, &out[0], &out[1]));
+    CHECK(all_kept(out, 2));
+    REFUSES(1, vektrid_point_singles(standard, 63, 0, 0, 1, &singles[0], &singles[1]));
+    CHECK(bits_of(singles[0]) == bits_of(7.0f) && bits_of(singles[1]) == bits_of(7.0f));
+}
+
+static void fills(uint32_t start, size_t count) {
+    uint32_t xs[40], ys[40];
+    keep(xs, 40);
+    keep(ys, 40);
+    CHECK(vektrid_fill(standard, 64, 0x12345678u, 0x9ABCDEF0u, start, xs, count, ys, count) == 0);
+    for (size_t i = 0; i < count; i++) {
+        uint32_t index = start + (uint32_t)i;
+        CHECK(xs[i] == point_of(standard, 0x12345678u, index) && ys[i] == point_of(standard + 32, 0x9ABCDEF0u, index));
+    }
+    CHECK(all_kept(xs + count, 40 - count) && all_kept(ys + count, 40 - count));
+}
+
+static void all_fills(void) {
+    static const size_t counts[6] = {0, 1, 2, 3, 17, 33};
+    for (int i = 0; i < 6; i++) {
+        fills(0, counts[i]);
+        fills(7, counts[i]);
+        fills(65535, counts[i]);
+        if (counts[i] > 0)
+            fills(LAST - (uint32_t)(counts[i] - 1), counts[i]); /* the last index is reached */
+    }
+    fills(LAST, 0);
+}
+
+static void refused_fills(void) {
+    uint32_t xs[8], ys[8];
+    keep(xs, 8);
+    keep(ys, 8);
+    REFUSES(8, vektrid_fill(standard, 64, 0, 0, 0, xs, 4, ys, 5));
+    REFUSES(8, vektrid_fill(standard, 64, 0, 0, LAST, xs, 5, ys, 4)); /* and 9 is due too */
+    REFUSES(9, vektrid_fill(standard, 64, 0, 0, LAST, xs, 2, ys, 2));
+    REFUSES(9, vektrid_fill(standard, 64, 0, 0, LAST - 6, xs, 8, ys, 8));
+    REFUSES(1, vektrid_fill(standard, 63, 0, 0, LAST, xs, 4, ys, 5)); /* and 8 and 9 are due too */
+    CHECK(all_kept(xs, 8) && all_kept(ys, 8));
+}
+
+/* ---- walks */
+
+static void opened_walks(void) {
+    uint32_t next = KEPT;
+    uint64_t left = KEPT;
+    REFUSES(9, vektrid_walk_open(LAST, 2, &next, &left));
+    REFUSES(9, vektrid_walk_open(0, 0x100000001u, &next, &left));
+    REFUSES(9, vektrid_walk_open(1, UINT64_MAX, &next, &left));
+    CHECK(next == KEPT && left == KEPT);
+    CHECK(vektrid_walk_open(LAST, 1, &next, &left) == 0);
+    CHECK(next == LAST && left == 1);
+    CHECK(vektrid_walk_open(0, 0x100000000u, &next, &left) == 0);
+    CHECK(next == 0 && left == 0x100000000u);
+    CHECK(vektrid_walk_open(5, 0, &next, &left) == 0);
+    CHECK(next == 5 && left == 0);
+}
+
+/* A walk of 3 visits and three steps more: the visits in order, and then the end, which changes nothing. */
+static void stepped_walk(void) {
+    uint32_t next = 6, given, index = KEPT, x = KEPT, y = KEPT;
+    uint64_t left = 3;
+    for (uint32_t n = 0; n < 6; n++) {
+        given = KEPT;
+        CHECK(vektrid_walk_step(standard, 64, 5, 9, &next, &left, &given, &index, &x, &y) == 0);
+        CHECK(given == (n < 3 ? 1u : 0u));
+        CHECK(next == (n < 3 ? 7 + n : 9) && left == (n < 3 ? 2 - n : 0));
+        uint32_t last = n < 3 ? 6 + n : 8; /* the visit given last, which a step at the end leaves there */
+        CHECK(index == last && x == point_of(standard, 5, last) && y == point_of(standard + 32, 9, last));
+    }
+}
+
+static void walk_of_singles(void) {
+    uint32_t next = 6, given, index = KEPT;
+    uint64_t left = 2;
+    float x = 7.0f, y = 7.0f;
+    for (uint32_t n = 0; n < 4; n++) {
+        CHECK(vektrid_walk_step_singles(standard, 64, 5, 9, &next, &left, &given, &index, &x, &y) == 0);
+        CHECK(given == (n < 2 ? 1u : 0u) && next == (n < 2 ? 7 + n : 8) && left == (n < 2 ? 1 - n : 0));
+        uint32_t last = n < 2 ? 6 + n : 7;
+        CHECK(index == last && bits_of(x) == bits_of(vektrid_single(point_of(standard, 5, last))));
+        CHECK(bits_of(y) == bits_of(vektrid_single(point_of(standard + 32, 9, last))));
+    }
+}
+
+/* With visits left at the last index, a step gives that visit, leaves none, and the index stays. */
+static void walk_at_the_last_index(void) {
+    uint32_t next = LAST, given = KEPT, index = KEPT, x = KEPT, y = KEPT;
+    uint64_t left = 5; /* no walk that was opened has more than 1 left there */
+    CHECK(vektrid_walk_step(standard, 64, 0, 0, &next, &left, &given, &index, &x, &y) == 0);
+    CHECK(given == 1 && index == LAST && next == LAST && left == 0);
+    CHECK(x == point_of(standard, 0, LAST) && y == point_of(standard + 32, 0, LAST));
+    CHECK(vektrid_walk_step(standard, 64, 0, 0, &next, &left, &given, &index, &x, &y) == 0);
+    CHECK(given == 0 && next == LAST && left == 0);
+}
+
+static void refused_steps(void) {
+    uint32_t out[5]; /* next, given, index, x, y */
+    uint64_t left = KEPT;
+    float singles[2] = {7.0f, 7.0f};
+    keep(out, 5);
+    REFUSES(1, vektrid_walk_step(standard, 65, 0, 0, &out[0], &left, &out[1], &out[2], &out[3], &out[4]));
+    REFUSES(1, vektrid_walk_step_singles(standard, 63, 0, 0, &out[0], &left, &out[1], &out[2], &singles[0], &singles[1]));
+    CHECK(all_kept(out, 5) && left == KEPT);
+    CHECK(bits_of(singles[0]) == bits_of(7.0f) && bits_of(singles[1]) == bits_of(7.0f));
+}
+
+/* ---- cells */
+
+static void known_queries(void) {
+    uint32_t index = KEPT, j = KEPT;
+    CHECK(vektrid_query(standard, 64, 0, 0, 32, 2, 1, 1, 0, 0, &index, &j) == 0 && index == 3);
+    CHECK(vektrid_query(standard, 64, 0, 0, 32, 2, 1, 1, 0, 1, &index, &j) == 0 && index == 5);
+    CHECK(vektrid_query(standard, 64, 0x80000000u, 0, 32, 2, 1, 1, 0, 0, &index, &j) == 0 && index == 0);
+    CHECK(vektrid_query(standard, 64, 0, 0, 1, 0, 0, 0, 0, LAST, &index, &j) == 0 && index == LAST);
+    CHECK(vektrid_query(standard, 64, 0, 0, 32, 4, 2, 0, 0, 268435455u, &index, &j) == 0 && index >> 4 == 268435455u);
+    CHECK(j == KEPT);
+}
+
+static void refused_queries(void) {
+    uint32_t out[2]; /* index, j */
+    keep(out, 2);
+    REFUSES(2, vektrid_query(standard, 64, 0, 0, 33, 2, 1, 1, 0, 0, &out[0], &out[1]));
+    REFUSES(4, vektrid_query(standard, 64, 0, 0, 2, 3, 1, 0, 0, 0, &out[0], &out[1]));
+    REFUSES(5, vektrid_query(standard, 64, 0, 0, 32, 2, 3, 0, 0, 0, &out[0], &out[1]));
+    REFUSES(6, vektrid_query(standard, 64, 0, 0, 32, 2, 1, 2, 0, 0, &out[0], &out[1]));
+    REFUSES(6, vektrid_query(standard, 64, 0, 0, 32, 2, 1, 0, 2, 0, &out[0], &out[1]));
+    REFUSES(7, vektrid_query(standard, 64, 0, 0, 32, 4, 2, 0, 0, 268435456u, &out[0], &out[1]));
+    REFUSES(7, vektrid_query(standard, 64, 0, 0, 32, 32, 2, 0, 0, 1, &out[0], &out[1]));
+    /* from here each line makes one thing more wrong, and the first of 01's order is given */
+    REFUSES(7, vektrid_query(identities, 64, 0, 0, 32, 4, 2, 0, 0, LAST, &out[0], &out[1]));
+    REFUSES(6, vektrid_query(identities, 64, 0, 0, 32, 4, 2, 4, 0, LAST, &out[0], &out[1]));
+    REFUSES(5, vektrid_query(identities, 64, 0, 0, 32, 4, 5, LAST, LAST, LAST, &out[0], &out[1]));
+    REFUSES(4, vektrid_query(identities, 64, 0, 0, 3, 4, 5, LAST, LAST, LAST, &out[0], &out[1]));
+    REFUSES(2, vektrid_query(identities, 64, 0, 0, 0, LAST, LAST, LAST, LAST, LAST, &out[0], &out[1]));
+    REFUSES(1, vektrid_query(identities, 63, 0, 0, 0, LAST, LAST, LAST, LAST, LAST, &out[0], &out[1]));
+    CHECK(all_kept(out, 2));
+    REFUSES(3, vektrid_query(identities, 64, 8, 9, 32, 2, 1, 1, 0, 0, &out[0], &out[1]));
+    CHECK(out[0] == KEPT && out[1] == 2);
+}
+
+/* Every cell of one shape and block: the index named lies in the block and in the cell, so that no two cells have the same. */
+static void cells(uint32_t m, uint32_t a, uint32_t block, uint32_t shift_x, uint32_t shift_y) {
+    for (uint32_t column = 0; column < 1u << a; column++)
+        for (uint32_t row = 0; row < 1u << (m - a); row++) {
+            uint32_t index = KEPT, j = KEPT;
+            CHECK(vektrid_query(standard, 64, shift_x, shift_y, 5, m, a, column, row, block, &index, &j) == 0);
+            CHECK(index >> m == block);
+            CHECK(top(point_of(standard, shift_x, index), a) == column);
+            CHECK(top(point_of(standard + 32, shift_y, index), m - a) == row);
+        }
+}
+
+static void all_small_cells(void) {
+    for (uint32_t m = 0; m <= 5; m++)
+        for (uint32_t a = 0; a <= m; a++) {
+            cells(m, a, 0, 0, 0);
+            cells(m, a, 5, 0x12345678u, 0x9ABCDEF0u);
+            cells(m, a, LAST >> m, LAST, 1);
+        }
+}
+
+/* ---- unit numbers and the stage */
+
+static void unit_numbers(void) {
+    CHECK(bits_of(vektrid_single(0)) == 0);
+    CHECK(bits_of(vektrid_single(1)) == 0x2F800000u);
+    CHECK(bits_of(vektrid_single(LAST)) == 0x3F7FFFFFu);
+    CHECK(bits_of(vektrid_single(0x7FFFFFFFu)) == 0x3EFFFFFFu); /* and not one half */
+    CHECK(bits_of(vektrid_single(0x80000000u)) == 0x3F000000u);
+    for (uint32_t word = 0, n = 0; n < 100; n++, word = word * 1664525u + 1013904223u) {
+        float x = 7.0f, y = 7.0f;
+        CHECK(vektrid_double(word) * 4294967296.0 == (double)word); /* both are exact */
+        CHECK((double)vektrid_single(word) <= vektrid_double(word));
+        CHECK(vektrid_point_singles(standard, 64, word, 3, n, &x, &y) == 0);
+        CHECK(bits_of(x) == bits_of(vektrid_single(point_of(standard, word, n))));
+        CHECK(bits_of(y) == bits_of(vektrid_single(point_of(standard + 32, 3, n))));
+    }
+}
+
+static void positions(void) {
+    int32_t x = 77, y = 77;
+    REFUSES(10, vektrid_position(0, 0, 0, 800, 1, 1, &x, &y));
+    REFUSES(10, vektrid_position(0, 0, 1000, 0, 1, 1, &x, &y));
+    REFUSES(10, vektrid_position(0, 0, 1000001u, 1, 1, 1, &x, &y));
+    REFUSES(10, vektrid_position(0, 0, 1, LAST, 1, 1, &x, &y));
+    REFUSES(10, vektrid_position(-1000001, 0, 1, 1, 1, 1, &x, &y));
+    REFUSES(10, vektrid_position(0, INT32_MIN, 1, 1, 1, 1, &x, &y));
+    REFUSES(10, vektrid_position(0, 1000001, 1, 1, 1, 1, &x, &y));
+    CHECK(x == 77 && y == 77);
+    CHECK(vektrid_position(-500, 0, 1000, 800, 0x40000000u, 0xC0000000u, &x, &y) == 0 && x == -250 && y == 600);
+    CHECK(vektrid_position(-1, 0, 3, 1, 0x40000000u, LAST, &x, &y) == 0 && x == -1 && y == 0); /* the floor, and not cut toward zero */
+    CHECK(vektrid_position(1000000, -1000000, 1000000, 1000000, LAST, LAST, &x, &y) == 0 && x == 1999999 && y == -1);
+}
+
+/* ---- region files */
+
+static uint8_t file[65568];
+
+static void put(size_t at, uint32_t value) {
+    for (int i = 0; i < 4; i++)
+        file[at + (size_t)i] = (uint8_t)(value >> 8 * i);
+}
+
+/* 01's example: first record 1, level 2, and record 1 = 0, -500, 0, 1000, 800, 0, 0, 4. */
+static void put_example(void) {
+    static const uint32_t fields[8] = {0, (uint32_t)-500, 0, 1000, 800, 0, 0, 4};
+    memset(file, 0, sizeof file);
+    put(0, 1);
+    put(4, 2);
+    for (size_t i = 0; i < 8; i++)
+        put(32 + 4 * i, fields[i]);
+}
+
+static const char *const example_listing = "record visit x y\n1 0 -500 0\n1 1 0 400\n1 2 -250 600\n1 3 250 200\n";
+
+/* The example with one field changed, and its answer; where that is a refusal, opening the file leaves the place as it was. */
+struct change {
+    size_t at;
+    uint32_t value;
+    size_t size;
+    uint32_t answer;
+};
+
+static const struct change changes[] = {
+    {0, 1, 64, 0},                    /* the example itself */
+    {0, 0, 64, 0},                    /* a chain without records */
+    {0, 0, 65536, 0},                 /* the longest file */
+    {4, 32, 64, 0},                   /* the largest level */
+    {36, 1000000, 64, 0},             /* the furthest left edge */
+    {60, 4096, 64, 0},                /* the most visits */
+    {0, 1, 40, 11},                   /* not whole records */
+    {0, 1, 0, 11},                    /* empty */
+    {0, 0, 65568, 11},                /* a record too long */
+    {4, 33, 64, 2},                   /* level */
+    {4, 0, 64, 2},                    /* level */
+    {8, 1, 64, 12},                   /* byte 8 */
+    {28, 0x01000000, 64, 12},         /* byte 31 */
+    {32, 5, 64, 13},                  /* next record */
+    {32, LAST, 64, 13},               /* next record */
+    {0, 2, 64, 13},                   /* first record */
+    {32, 1, 64, 14},                  /* next record */
+    {44, 0, 64, 10},                  /* width */
+    {48, 1000001, 64, 10},            /* height */
+    {36, 1000001, 64, 10},            /* left */
+    {40, (uint32_t)-1000001, 64, 10}, /* top */
+    {60, 4097, 64, 15},               /* visits */
+    {60, LAST, 64, 15},               /* visits */
+};
+
+static void files(void) {
+    for (size_t i = 0; i < sizeof changes / sizeof changes[0]; i++) {
+        vektrid_place place;
+        uint32_t answer = changes[i].answer;
+        keep(place.words, 11);
+        put_example();
+        put(changes[i].at, changes[i].value);
+        refused[answer] += (unsigned)check(vektrid_judge(file, changes[i].size) == answer, "the file gets its answer", __FILE__, __LINE__);
+        CHECK(vektrid_visits_open(file, changes[i].size, &place) == answer);
+        CHECK(answer == 0 || all_kept(place.words, 11));
+    }
+}
+
+/* Several things wrong: 11, 2, 12, then at each link 13, 14, 10, 15. */
+static void order_of_files(void) {
+    put_example();
+    put(60, 4097);
+    REFUSES(15, vektrid_judge(file, 64));
+    put(44, 0);
+    REFUSES(10, vektrid_judge(file, 64));
+    put(32, 1);
+    REFUSES(10, vektrid_judge(file, 64)); /* record 1 is judged at the link of record 0, before its own link */
+    put(0, 7);
+    REFUSES(13, vektrid_judge(file, 64));
+    put(8, 1);
+    REFUSES(12, vektrid_judge(file, 64));
+    put(4, 0);
+    REFUSES(2, vektrid_judge(file, 64));
+    REFUSES(11, vektrid_judge(file, 63));
+}
+
+static void visits(void) {
+    static const int32_t at[4][2] = {{-500, 0}, {0, 400}, {-250, 600}, {250, 200}};
+    vektrid_place place;
+    uint32_t given = KEPT, record = KEPT, index = KEPT;
+    int32_t x = 77, y = 77;
+    put_example();
+    CHECK(vektrid_visits_open(file, 64, &place) == 0);
+    for (uint32_t n = 0; n < 7; n++) {
+        uint32_t last = n < 4 ? n : 3; /* the visit given last, which a step at the end leaves there */
+        vektrid_place copy = place;    /* a copy goes on as the place itself */
+        vektrid_visits_step(file, 64, &place, &given, &record, &index, &x, &y);
+        CHECK(given == (n < 4 ? 1u : 0u) && record == 1 && index == last && x == at[last][0] && y == at[last][1]);
+        vektrid_visits_step(file, 64, &copy, &given, &record, &index, &x, &y);
+        CHECK(given == (n < 4 ? 1u : 0u) && record == 1 && index == last && x == at[last][0] && y == at[last][1]);
+    }
+}
+
+static void visits_of_none(void) {
+    vektrid_place place;
+    uint32_t out[3]; /* given, record, index */
+    int32_t x = 77, y = 77;
+    keep(out, 3);
+    put_example();
+    put(0, 0); /* a chain without records */
+    CHECK(vektrid_visits_open(file, 64, &place) == 0);
+    vektrid_visits_step(file, 64, &place, &out[0], &out[1], &out[2], &x, &y);
+    CHECK(out[0] == 0 && all_kept(out + 1, 2) && x == 77 && y == 77);
+}
+
+/* The whole listing through pages of some room: each page within its room, whole lines, and nothing written past them. */
+static size_t listing(size_t size, size_t room, char *text, size_t text_room) {
+    uint8_t page[128];
+    vektrid_cursor cursor;
+    size_t length = 0;
+    vektrid_listing_open(file, size, &cursor);
+    for (;;) {
+        memset(page, BYTE_KEPT, sizeof page);
+        size_t written = vektrid_listing_page(file, size, &cursor, page, room);
+        CHECK(written <= room && length + written < text_room);
+        if (written > room || length + written >= text_room)
+            break;
+        for (size_t i = written; i < sizeof page; i++)
+            CHECK(page[i] == BYTE_KEPT);
+        if (written == 0)
+            break;
+        CHECK(page[written - 1] == '\n');
+        memcpy(text + length, page, written);
+        length += written;
+    }
+    text[length] = 0;
+    return length;
+}
+
+static void listings(void) {
+    char text[256], expected[24];
+    for (size_t room = 46; room <= 128; room++) {
+        put_example();
+        CHECK(listing(64, room, text, sizeof text) == strlen(example_listing) && strcmp(text, example_listing) == 0);
+    }
+    for (size_t i = 0; i < sizeof changes / sizeof changes[0]; i++) {
+        if (changes[i].answer == 0)
+            continue;
+        put_example();
+        put(changes[i].at, changes[i].value);
+        snprintf(expected, sizeof expected, "refused %u\n", (unsigned)changes[i].answer);
+        listing(changes[i].size, 46, text, sizeof text);
+        CHECK(strcmp(text, expected) == 0);
+    }
+    put_example();
+    put(0, 0);
+    listing(64, 46, text, sizeof text);
+    CHECK(strcmp(text, "record visit x y\n") == 0);
+}
+
+/* Less room than the longest line: nothing is written, and the listing can go on with more. */
+static void listing_without_room(void) {
+    uint8_t page[64];
+    vektrid_cursor cursor;
+    put_example();
+    vektrid_listing_open(file, 64, &cursor);
+    memset(page, BYTE_KEPT, sizeof page);
+    CHECK(vektrid_listing_page(file, 64, &cursor, page, 45) == 0);
+    CHECK(vektrid_listing_page(file, 64, &cursor, page, 0) == 0);
+    for (size_t i = 0; i < sizeof page; i++)
+        CHECK(page[i] == BYTE_KEPT);
+    CHECK(vektrid_listing_page(file, 64, &cursor, page, 46) > 0 && memcmp(page, "record visit x y\n", 17) == 0);
+}
+
+/* Places and cursors of any content are answered: no step writes past its words, no page past its room. */
+static void any_content(void) {
+    static const uint32_t contents[4] = {0, 1, KEPT, LAST};
+    put_example();
+    for (int n = 0; n < 4; n++) {
+        uint8_t page[64];
+        uint32_t given = KEPT, record, index;
+        int32_t x, y;
+        vektrid_place place;
+        vektrid_cursor cursor;
+        for (int i = 0; i < 11; i++)
+            place.words[i] = contents[n];
+        for (int i = 0; i < 13; i++)
+            cursor.words[i] = contents[n];
+        vektrid_visits_step(file, 64, &place, &given, &record, &index, &x, &y);
+        CHECK(given == 0 || given == 1);
+        memset(page, BYTE_KEPT, sizeof page);
+        size_t written = vektrid_listing_page(file, 64, &cursor, page, 50);
+        CHECK(written <= 50);
+        for (size_t i = written; i < sizeof page; i++)
+            CHECK(page[i] == BYTE_KEPT);
+    }
+}
+
+int main(void) {
+    make_pairs();
+    standard_pairs();
+    checked_pairs();
+    checked_strips();
+    known_points();
+    points();
+    refused_points();
+    all_fills();
+    refused_fills();
+    opened_walks();
+    stepped_walk();
+    walk_of_singles();
+    walk_at_the_last_index();
+    refused_steps();
+    known_queries();
+    refused_queries();
+    all_small_cells();
+    unit_numbers();
+    positions();
+    files();
+    order_of_files();
+    visits();
+    visits_of_none();
+    listings();
+    listing_without_room();
+    any_content();
+    for (int number = 1; number <= 15; number++)
+        CHECK(refused[number] > 0);
+    printf("interface.c: %u checks, %u failed\n", checks, failures);
+    return failures == 0 ? 0 : 1;
+}
