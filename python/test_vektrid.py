@@ -544,6 +544,31 @@ class Positions(unittest.TestCase):
                 at = vektrid.Region(left, top, width, height).position(x, y)
                 self.assertEqual(at, (left + math.floor(Fraction(x * width, 2**32)), top + math.floor(Fraction(y * height, 2**32))))
 
+    def test_position_lies_in_its_column_but_for_the_rounding(self):
+        # what docs/EXAMPLE.md says of clicks: left of the column by less than 1, never right of it, and inside where the columns are whole
+        left_of_it = 0
+        for width in (1, 3, 1000, 1001, 1024):
+            region = vektrid.Region(-500, 0, width, 1)
+            for a in (0, 1, 3, 6):
+                for column in range(2**a):
+                    edges = [Fraction(each * width, 2**a) - 500 for each in (column, column + 1)]
+                    for word in (column << (32 - a), ((column + 1) << (32 - a)) - 1):  # the first and the last of the column
+                        at = region.position(word, 0).x
+                        self.assertTrue(edges[0] - 1 < at < edges[1])
+                        self.assertTrue(edges[0] <= at or width % 2**a)
+                        left_of_it += at < edges[0]
+        self.assertGreater(left_of_it, 0)
+
+    def test_click(self):
+        # each whole place of a region: its column and row name a cell, and that cell's visit lies in it
+        region, m, a, shift = vektrid.Region(-7, 3, 21, 13), 5, 2, SHIFTS[2]
+        for x in range(-7, 14):
+            for y in range(3, 16):
+                column, row = (x - region.left) * 2**a // region.width, (y - region.top) * 2**(m - a) // region.height
+                point = STANDARD.point(STANDARD.query(32, m, a, column, row, 0, shift), shift)
+                self.assertTrue(column * region.width <= (x - region.left) * 2**a < (column + 1) * region.width)
+                self.assertEqual(cell_of(point, m, a), (column, row))
+
     def test_region_is_a_value(self):
         region = vektrid.Region(left=-500, top=0, width=1000, height=800)
         self.assertEqual((region, region.width), ((-500, 0, 1000, 800), 1000))
@@ -816,4 +841,6 @@ class Interface(unittest.TestCase):
 
 
 if __name__ == '__main__':
+    if numpy is None:
+        print('numpy is not installed: its tests are skipped', file=sys.stderr)
     unittest.main()

@@ -1,0 +1,28 @@
+import vektrid
+
+slide = vektrid.Region(left=-9000, top=2500, width=18001, height=12002)
+scramble = (0x9E3779B9, 0x3C6EF372)
+pair = vektrid.Pair.standard()
+pair.check(4)
+
+print('visit     x      y')
+for index, x, y in pair.walk(0, 16, scramble):
+    at = slide.position(x, y)
+    print(f'{index:5} {at.x:6} {at.y:6}')
+
+m, a = 4, 2
+click_x, click_y = -1234, 9876
+column = (click_x - slide.left) * 2**a // slide.width
+row = (click_y - slide.top) * 2**(m - a) // slide.height
+
+index = pair.query(32, m, a, column, row, block=0, shift=scramble)
+point = pair.point(index, scramble)
+at = slide.position(point.x, point.y)
+print(f'the click {click_x}, {click_y} is in column {column}, row {row}')
+print(f'visit {index} goes there: {at.x}, {at.y}')
+
+assert (point.x >> 32 - a, point.y >> 32 - (m - a)) == (column, row)
+edges_x = [slide.left + each * slide.width / 2**a for each in (column, column + 1)]
+edges_y = [slide.top + each * slide.height / 2**(m - a) for each in (row, row + 1)]
+print(f'the square: x from {edges_x[0]} to {edges_x[1]}, y from {edges_y[0]} to {edges_y[1]}')
+assert edges_x[0] - 1 < at.x < edges_x[1] and edges_y[0] - 1 < at.y < edges_y[1]
