@@ -21,6 +21,7 @@ import subprocess
 import sys
 import tempfile
 import unittest
+import unittest.mock
 from fractions import Fraction
 
 HERE = os.path.dirname(os.path.realpath(__file__))
@@ -347,6 +348,10 @@ class Fills(unittest.TestCase):
         self.assertEqual((len(xs), len(ys), STANDARD.fill(LAST, 0)), (0, 0, ([], [])))
         with self.assertRaises(vektrid.BufferLengths):
             STANDARD.fill(0, (xs, array.array('I', [7])))
+
+    def test_numpy_asked_for_and_missing(self):
+        with unittest.mock.patch.dict(sys.modules, {'numpy': None}):
+            self.assertRaises(ImportError, STANDARD.fill, 0, 3, numpy=True)
 
 
 class LentBuffers(unittest.TestCase):
