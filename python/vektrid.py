@@ -484,11 +484,11 @@ class Walk:
 
     `next` is the index of the next visit and `left` how many visits are left. pair.walk(walk.next, walk.left, shift) goes on from there.
     """
-    __slots__ = ('_pair', '_shift', '_next', '_left')
+    __slots__ = ('_given', '_next', '_left')
 
     def __init__(self, pair, start, count, shift):
         start, count = _whole('start', start), _whole('count', count, high=2**64 - 1)
-        self._pair, self._shift = pair, _shift(shift)
+        self._given = pair._under(shift)
         following, left = ctypes.c_uint32(), ctypes.c_uint64()
         _accept(_library.vektrid_walk_open(start, count, following, left), start=start, count=count)
         self._next, self._left = following.value, left.value
@@ -507,8 +507,7 @@ class Walk:
         """Moves on; gives the index and both coordinates, or None where the walk has ended."""
         following, left = ctypes.c_uint32(self._next), ctypes.c_uint64(self._left)
         given, index, x, y = ctypes.c_uint32(), ctypes.c_uint32(), kind(), kind()
-        number = call(*self._pair._under(self._shift), following, left, given, index, x, y)
-        _accept(number, count=len(self._pair._words))
+        _accept(call(*self._given, following, left, given, index, x, y), count=self._given[1])
         self._next, self._left = following.value, left.value
         return (index.value, x.value, y.value) if given.value else None
 
