@@ -3,6 +3,8 @@
 //! documents 01, 003 and 004 alone and not from the Rattle code, so that an
 //! agreement of the two says something.
 
+#![forbid(unsafe_code)]
+
 pub mod check;
 pub mod fill;
 pub mod listing;
@@ -11,6 +13,7 @@ pub mod query;
 pub mod refusal;
 pub mod region_file;
 pub mod stage;
+pub mod trial;
 pub mod unit;
 pub mod walk;
 

@@ -1,6 +1,8 @@
 //! Prints the visits of the region file on standard input, or its refusal.
 //! Written from documents 01, 003 and 004 alone and not from the Rattle code.
 
+#![forbid(unsafe_code)]
+
 use std::io::{self, Read, Write};
 
 use reference::listing::{listing, refused};

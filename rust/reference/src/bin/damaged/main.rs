@@ -4,19 +4,17 @@
 //!
 //!     damaged PROGRAM [SEED] [COUNT]
 
-mod damage;
-mod draft;
-mod files;
+#![forbid(unsafe_code)]
+
 mod program;
 mod report;
-mod shrink;
-mod splitmix;
 
 use std::process::ExitCode;
 use std::sync::atomic::{AtomicBool, AtomicU64, Ordering};
 use std::{env, fs, io, thread};
 
 use reference::listing::listing;
+use reference::trial::{files, shrink};
 
 use program::answer;
 use report::{difference, Tally};

@@ -3,6 +3,8 @@
 //! another program. Written from documents 01, 003 and 004 alone and not from
 //! the Rattle code.
 
+#![forbid(unsafe_code)]
+
 mod file_sections;
 mod stage_sections;
 

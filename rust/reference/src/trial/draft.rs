@@ -1,9 +1,8 @@
 //! A region file in order, still as fields, so that it can be damaged.
 //! Written from documents 01, 003 and 004 alone and not from the Rattle code.
 
-use reference::region_file::{file_of, Fields};
-
-use crate::splitmix::Splitmix;
+use crate::region_file::{file_of, Fields};
+use crate::trial::splitmix::Splitmix;
 
 /// The places of the fields in a record. The first record's number stands in
 /// record 0 where the others have the next one's.
@@ -115,12 +114,12 @@ fn count(random: &mut Splitmix) -> u32 {
 #[cfg(test)]
 mod tests {
     use super::*;
-    use reference::region_file::chain;
+    use crate::region_file::chain;
 
     #[test]
     fn drafts_are_accepted_with_their_chain() {
         for number in 0..500 {
-            let draft = Draft::any(&mut Splitmix::of_file(7, number));
+            let draft = Draft::any(&mut Splitmix::of_case(7, number));
             let records = chain(&draft.bytes()).unwrap();
             let numbers: Vec<u32> = records.iter().map(|record| record.number).collect();
             assert_eq!(numbers, draft.chain);
@@ -129,7 +128,7 @@ mod tests {
 
     #[test]
     fn full_draft_has_the_largest_length() {
-        let file = Draft::full(&mut Splitmix::of_file(7, 7)).bytes();
+        let file = Draft::full(&mut Splitmix::of_case(7, 7)).bytes();
         assert_eq!(file.len(), 65_536);
         assert_eq!(chain(&file).unwrap().len(), 2_047);
     }

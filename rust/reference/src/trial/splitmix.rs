@@ -1,4 +1,4 @@
-//! A small generator (splitmix64), so that a seed makes the same files anywhere.
+//! A small generator (splitmix64), so that a seed makes the same cases anywhere.
 //! Written from documents 01, 003 and 004 alone and not from the Rattle code.
 
 const STEP: u64 = 0x9E37_79B9_7F4A_7C15;
@@ -8,9 +8,9 @@ pub struct Splitmix {
 }
 
 impl Splitmix {
-    /// The generator of one file. It depends on the file's number and not on
-    /// the files before, so the worker threads may take them as they come.
-    pub fn of_file(seed: u64, number: u64) -> Splitmix {
+    /// The generator of one case. It depends on the case's number and not on
+    /// the cases before, so worker threads may take them as they come.
+    pub fn of_case(seed: u64, number: u64) -> Splitmix {
         let mut mixed = Splitmix { state: seed.wrapping_add(number.wrapping_mul(STEP)) };
         Splitmix { state: mixed.next() }
     }
@@ -60,7 +60,7 @@ mod tests {
 
     #[test]
     fn numbers_stay_below_their_bound() {
-        let mut random = Splitmix::of_file(1, 2);
+        let mut random = Splitmix::of_case(1, 2);
         let mut seen = [false; 7];
         for _ in 0..1_000 {
             seen[random.below(7) as usize] = true;
@@ -71,7 +71,7 @@ mod tests {
     #[test]
     fn shuffle_keeps_the_numbers() {
         let mut list: Vec<u32> = (0..100).collect();
-        Splitmix::of_file(3, 4).shuffle(&mut list);
+        Splitmix::of_case(3, 4).shuffle(&mut list);
         let sorted: Vec<u32> = (0..100).collect();
         assert_ne!(list, sorted);
         list.sort();

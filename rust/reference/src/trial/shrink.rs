@@ -3,7 +3,7 @@
 
 use std::time::{Duration, Instant};
 
-use reference::region_file::RECORD_BYTES;
+use crate::region_file::RECORD_BYTES;
 
 const FIELD_BYTES: usize = 4;
 

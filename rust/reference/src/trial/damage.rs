@@ -1,8 +1,8 @@
 //! Damage to single fields: each set at its limit and just past it.
 //! Written from documents 01, 003 and 004 alone and not from the Rattle code.
 
-use crate::draft::{Draft, COUNT, HEIGHT, LEFT, LEVEL, NEXT, TOP, WIDTH};
-use crate::splitmix::Splitmix;
+use crate::trial::draft::{Draft, COUNT, HEIGHT, LEFT, LEVEL, NEXT, TOP, WIDTH};
+use crate::trial::splitmix::Splitmix;
 
 const LEVELS: [u32; 5] = [0, 1, 32, 33, u32::MAX];
 const EDGES: [i32; 6] = [-1_000_001, -1_000_000, 1_000_000, 1_000_001, i32::MIN, i32::MAX];
@@ -95,13 +95,13 @@ impl Link {
 #[cfg(test)]
 mod tests {
     use super::*;
-    use reference::refusal::Refusal;
-    use reference::region_file::chain;
+    use crate::refusal::Refusal;
+    use crate::region_file::chain;
 
     /// The refusals that a damage gives over many drafts; 0 is accepted.
     fn outcomes(damage: Damage) -> Vec<u32> {
         let judge = |number| {
-            let mut random = Splitmix::of_file(11, number);
+            let mut random = Splitmix::of_case(11, number);
             let mut draft = Draft::chained(&mut random);
             damage.put(&mut draft, &mut random);
             chain(&draft.bytes()).map_or_else(Refusal::number, |_| 0)

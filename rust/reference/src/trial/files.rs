@@ -1,11 +1,10 @@
 //! The files to try, each made from the seed and its number alone.
 //! Written from documents 01, 003 and 004 alone and not from the Rattle code.
 
-use reference::region_file::RECORD_BYTES;
-
-use crate::damage::Damage;
-use crate::draft::Draft;
-use crate::splitmix::Splitmix;
+use crate::region_file::RECORD_BYTES;
+use crate::trial::damage::Damage;
+use crate::trial::draft::Draft;
+use crate::trial::splitmix::Splitmix;
 
 /// Lengths about the limits. The last but one is of whole records.
 const LENGTHS: [usize; 10] = [0, 31, 32, 33, 65_535, 65_536, 65_537, 65_568, 100_000, 100_001];
@@ -14,7 +13,7 @@ const LENGTHS: [usize; 10] = [0, 31, 32, 33, 65_535, 65_536, 65_537, 65_568, 100
 /// more of them would only take time. They come last, so that a plain fault
 /// is met in a small file.
 pub fn make(seed: u64, number: u64) -> Vec<u8> {
-    let mut random = Splitmix::of_file(seed, number);
+    let mut random = Splitmix::of_case(seed, number);
     match number % 100 {
         0..=27 => Draft::any(&mut random).bytes(),
         28..=34 => random_bytes(&mut random),
@@ -107,8 +106,8 @@ fn two_faults(random: &mut Splitmix, number: u64) -> Vec<u8> {
 #[cfg(test)]
 mod tests {
     use super::*;
-    use reference::refusal::Refusal;
-    use reference::region_file::chain;
+    use crate::refusal::Refusal;
+    use crate::region_file::chain;
     use std::collections::BTreeSet;
 
     #[test]

@@ -1,0 +1,9 @@
+//! Inputs on which a planner can be tried: random numbers from a seed, region
+//! files in order and damaged, and failing files made smaller. Written from
+//! documents 01, 003 and 004 alone and not from the Rattle code.
+
+pub mod damage;
+pub mod draft;
+pub mod files;
+pub mod shrink;
+pub mod splitmix;
