@@ -1,0 +1,58 @@
+//! Plans the visits of a microscope stage with (0,2)-sequences: in every aligned block of visits,
+//! every elementary interval of every shape is seen exactly once. It also works backwards: given
+//! an interval, it names the visit in it.
+//!
+//! ```
+//! use vektrid::{Cell, Pair, Region, Shift};
+//!
+//! let (pair, shift) = (Pair::standard(), Shift { x: 0x1234_5678, y: 0x9ABC_DEF0 });
+//! let point = pair.point(shift, 5);
+//! let at = Region { left: -500, top: 0, width: 1000, height: 800 }.position(point.x, point.y)?;
+//! assert_eq!((at.x, at.y), (196, 583));
+//!
+//! // Of the first sixteen visits, the one in this square of four by four.
+//! let cell = Cell { m: 4, a: 2, column: point.x >> 30, row: point.y >> 30, block: 0 };
+//! assert_eq!(pair.query(shift, 32, cell)?, 5);
+//! # Ok::<(), vektrid::Refusal>(())
+//! ```
+//!
+//! # What is proved, and what is not
+//!
+//! The library behind these bindings is proved, in Rattle, for all inputs: what each call answers,
+//! which inputs it refuses and under which number, what it writes into lent memory, that it ends
+//! and never traps, and the theorems about the points themselves. `docs/PROMISES.md` of the
+//! repository says where each of them stands.
+//!
+//! Not proved are the boundary, that is the C declarations in [`raw`] and how the compilers pass
+//! arguments, and this crate. It does three things: it hands over lent slices with their lengths,
+//! it gives refusals their names, and it copies answers into structures. `rust/bindings` tests it
+//! and compares its answers with a planner in Rust that was written apart.
+//!
+//! # Words
+//!
+//! Items have the names of the field. Where document 01, which says what the planner must do, has
+//! another word or one of its own, the comment says so: a pair (two generator matrices), scramble
+//! (digital shift), cell (elementary interval), walk (cursor over visits).
+
+#![deny(missing_docs)]
+
+mod cells;
+mod listing;
+mod pair;
+mod points;
+pub mod raw;
+mod refusal;
+mod region_file;
+mod stage;
+mod unit;
+mod walk;
+
+pub use cells::{query_words, Cell};
+pub use listing::{listing, Cursor, Listing, LONGEST_LINE};
+pub use pair::{check_words, standard_words, Pair};
+pub use points::{fill_words, point_words, standard_point, Point, Shift};
+pub use refusal::Refusal;
+pub use region_file::{judge, visits, FileVisit, Place, Visits};
+pub use stage::{Position, Region};
+pub use unit::{double, point_singles_words, single, Singles};
+pub use walk::{SinglesVisit, Steps, Visit, Walk};

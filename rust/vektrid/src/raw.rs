@@ -1,0 +1,169 @@
+//! The C calls as `include/vektrid.h` declares them. The rest of this crate makes them safe.
+//!
+//! Each answers any numbers. It asks of its caller that no pointer is null, that each buffer has
+//! the length given beside it, and that what
+//! it writes overlaps nothing else that is lent to it.
+
+/// A place among the visits of a region file (`vektrid_place`). Any content is answered.
+#[repr(C)]
+#[derive(Clone, Copy, Debug, PartialEq, Eq, Hash)]
+pub struct Place {
+    /// Words that only the library reads.
+    pub words: [u32; 11],
+}
+
+/// A cursor in the listing of a region file (`vektrid_cursor`). Any content is answered.
+#[repr(C)]
+#[derive(Clone, Copy, Debug, PartialEq, Eq, Hash)]
+pub struct Cursor {
+    /// Words that only the library reads.
+    pub words: [u32; 13],
+}
+
+extern "C" {
+    /// Writes the standard pair into 64 words.
+    pub fn vektrid_standard_pair(words: *mut u32, count: usize) -> u32;
+
+    /// Whether a pair passes a level.
+    pub fn vektrid_check(
+        words: *const u32,
+        count: usize,
+        level: u32,
+        m: *mut u32,
+        a: *mut u32,
+        j: *mut u32,
+    ) -> u32;
+
+    /// The point of an index.
+    pub fn vektrid_point(
+        words: *const u32,
+        count: usize,
+        shift_x: u32,
+        shift_y: u32,
+        index: u32,
+        x: *mut u32,
+        y: *mut u32,
+    ) -> u32;
+
+    /// The point of an index of the standard pair, by the fast way.
+    pub fn vektrid_standard_point(shift_x: u32, shift_y: u32, index: u32, x: *mut u32, y: *mut u32);
+
+    /// The points of the indexes from a start on.
+    pub fn vektrid_fill(
+        words: *const u32,
+        count: usize,
+        shift_x: u32,
+        shift_y: u32,
+        start: u32,
+        xs: *mut u32,
+        xs_count: usize,
+        ys: *mut u32,
+        ys_count: usize,
+    ) -> u32;
+
+    /// A walk over visits.
+    pub fn vektrid_walk_open(start: u32, count: u64, next: *mut u32, left: *mut u64) -> u32;
+
+    /// A step of a walk.
+    pub fn vektrid_walk_step(
+        words: *const u32,
+        count: usize,
+        shift_x: u32,
+        shift_y: u32,
+        next: *mut u32,
+        left: *mut u64,
+        given: *mut u32,
+        index: *mut u32,
+        x: *mut u32,
+        y: *mut u32,
+    ) -> u32;
+
+    /// A step of a walk, the point as two singles.
+    pub fn vektrid_walk_step_singles(
+        words: *const u32,
+        count: usize,
+        shift_x: u32,
+        shift_y: u32,
+        next: *mut u32,
+        left: *mut u64,
+        given: *mut u32,
+        index: *mut u32,
+        x: *mut f32,
+        y: *mut f32,
+    ) -> u32;
+
+    /// The index of a block that lies in a cell.
+    pub fn vektrid_query(
+        words: *const u32,
+        count: usize,
+        shift_x: u32,
+        shift_y: u32,
+        level: u32,
+        m: u32,
+        a: u32,
+        column: u32,
+        row: u32,
+        block: u32,
+        index: *mut u32,
+        j: *mut u32,
+    ) -> u32;
+
+    /// A word divided by 2^32.
+    pub fn vektrid_double(word: u32) -> f64;
+
+    /// The largest single not above a word divided by 2^32.
+    pub fn vektrid_single(word: u32) -> f32;
+
+    /// The point of an index as two singles.
+    pub fn vektrid_point_singles(
+        words: *const u32,
+        count: usize,
+        shift_x: u32,
+        shift_y: u32,
+        index: u32,
+        x: *mut f32,
+        y: *mut f32,
+    ) -> u32;
+
+    /// Where a point lies in a region.
+    pub fn vektrid_position(
+        left: i32,
+        top: i32,
+        width: u32,
+        height: u32,
+        x: u32,
+        y: u32,
+        at_x: *mut i32,
+        at_y: *mut i32,
+    ) -> u32;
+
+    /// Judges a region file.
+    pub fn vektrid_judge(file: *const u8, size: usize) -> u32;
+
+    /// The place before the first visit of a file.
+    pub fn vektrid_visits_open(file: *const u8, size: usize, place: *mut Place) -> u32;
+
+    /// The next visit of a file.
+    pub fn vektrid_visits_step(
+        file: *const u8,
+        size: usize,
+        place: *mut Place,
+        given: *mut u32,
+        record: *mut u32,
+        index: *mut u32,
+        at_x: *mut i32,
+        at_y: *mut i32,
+    );
+
+    /// The start of a file's listing.
+    pub fn vektrid_listing_open(file: *const u8, size: usize, cursor: *mut Cursor);
+
+    /// The next piece of a listing.
+    pub fn vektrid_listing_page(
+        file: *const u8,
+        size: usize,
+        cursor: *mut Cursor,
+        out: *mut u8,
+        room: usize,
+    ) -> usize;
+}

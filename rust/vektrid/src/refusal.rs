@@ -1,0 +1,149 @@
+//! The refusals of document 01, each with its number and its meaning in words.
+
+use std::error::Error;
+use std::fmt;
+
+/// Why a call was refused: an error with its number in the refusal table of document 01.
+///
+/// ```
+/// let refusal = vektrid::Walk::open(4_294_967_295, 2).unwrap_err();
+/// assert_eq!(refusal, vektrid::Refusal::IndexRange);
+/// assert_eq!(refusal.number(), 9);
+/// assert_eq!(refusal.to_string(), "refusal 9: start + count is above 2^32");
+/// ```
+#[derive(Clone, Copy, Debug, PartialEq, Eq, Hash)]
+// Later requests bring more of them.
+#[non_exhaustive]
+pub enum Refusal {
+    /// 1: a pair is not 64 words.
+    WordCount,
+    /// 2: a level is not 1 to 32.
+    Level,
+    /// 3: not a net. An elementary interval (01: cell) holds two visits.
+    NotNet {
+        /// The size of the shape: 2^m visits and as many cells.
+        m: u32,
+        /// The shape has 2^a columns.
+        a: u32,
+        /// The least index above 0 in the cell of index 0.
+        j: u32,
+    },
+    /// 4: m is above the level.
+    Size,
+    /// 5: a is above m.
+    Shape,
+    /// 6: the column or the row is outside the shape.
+    Cell,
+    /// 7: the block lies beyond the last index.
+    Block,
+    /// 8: two buffers differ in length.
+    BufferLengths,
+    /// 9: start + count is above 2^32.
+    IndexRange,
+    /// 10: an edge or an extent of a region is outside its limits.
+    Region,
+    /// 11: a file is empty, over 65,536 bytes, or not whole records.
+    FileLength,
+    /// 12: bytes 8 to 31 of record 0 are not all zero.
+    Header,
+    /// 13: the chain names a record that the file lacks.
+    MissingRecord,
+    /// 14: the chain returns to a record.
+    ChainReturns,
+    /// 15: a record has more than 4,096 visits.
+    VisitCount,
+}
+
+/// The refusals without values.
+const PLAIN: [Refusal; 14] = [
+    Refusal::WordCount,
+    Refusal::Level,
+    Refusal::Size,
+    Refusal::Shape,
+    Refusal::Cell,
+    Refusal::Block,
+    Refusal::BufferLengths,
+    Refusal::IndexRange,
+    Refusal::Region,
+    Refusal::FileLength,
+    Refusal::Header,
+    Refusal::MissingRecord,
+    Refusal::ChainReturns,
+    Refusal::VisitCount,
+];
+
+/// What a call without refusal 3 answered.
+pub(crate) fn judged(number: u32) -> Result<(), Refusal> {
+    if number == 0 {
+        return Ok(());
+    }
+    match PLAIN.into_iter().find(|refusal| refusal.number() == number) {
+        Some(refusal) => Err(refusal),
+        // The proofs rule it out, so the archive is not the one of this crate.
+        None => panic!("the archive is another one: it answered {number}"),
+    }
+}
+
+/// What a call answered that has put the values of refusal 3 into these words.
+pub(crate) fn judged_net(number: u32, m: u32, a: u32, j: u32) -> Result<(), Refusal> {
+    let not_net = Refusal::NotNet { m, a, j };
+    if number == not_net.number() {
+        return Err(not_net);
+    }
+    judged(number)
+}
+
+impl Refusal {
+    /// The number in the refusal table, 1 to 15.
+    pub fn number(self) -> u32 {
+        match self {
+            Refusal::WordCount => 1,
+            Refusal::Level => 2,
+            Refusal::NotNet { .. } => 3,
+            Refusal::Size => 4,
+            Refusal::Shape => 5,
+            Refusal::Cell => 6,
+            Refusal::Block => 7,
+            Refusal::BufferLengths => 8,
+            Refusal::IndexRange => 9,
+            Refusal::Region => 10,
+            Refusal::FileLength => 11,
+            Refusal::Header => 12,
+            Refusal::MissingRecord => 13,
+            Refusal::ChainReturns => 14,
+            Refusal::VisitCount => 15,
+        }
+    }
+
+    fn words(self) -> &'static str {
+        match self {
+            Refusal::WordCount => "a pair is not 64 words",
+            Refusal::Level => "the level is not 1 to 32",
+            Refusal::NotNet { .. } => "not a net",
+            Refusal::Size => "m is above the level",
+            Refusal::Shape => "a is above m",
+            Refusal::Cell => "the column or the row is outside the shape",
+            Refusal::Block => "the block lies beyond the last index",
+            Refusal::BufferLengths => "the two buffers differ in length",
+            Refusal::IndexRange => "start + count is above 2^32",
+            Refusal::Region => "an edge or an extent of the region is outside its limits",
+            Refusal::FileLength => "the file is empty, over 65,536 bytes, or not whole records",
+            Refusal::Header => "bytes 8 to 31 of record 0 are not all zero",
+            Refusal::MissingRecord => "the chain names a record that the file lacks",
+            Refusal::ChainReturns => "the chain returns to a record",
+            Refusal::VisitCount => "a record has more than 4,096 visits",
+        }
+    }
+}
+
+impl fmt::Display for Refusal {
+    fn fmt(&self, formatter: &mut fmt::Formatter<'_>) -> fmt::Result {
+        write!(formatter, "refusal {}: {}", self.number(), self.words())?;
+        if let Refusal::NotNet { m, a, j } = self {
+            write!(formatter, ": index {j} shares a cell of the shape ({m}, {a}) with index 0")?;
+        }
+        Ok(())
+    }
+}
+
+impl Error for Refusal {}

@@ -1,0 +1,100 @@
+//! Region files: their judgement and their visits.
+
+use std::iter::FusedIterator;
+
+use crate::raw;
+use crate::refusal::{judged, Refusal};
+
+pub use crate::raw::Place;
+
+/// A visit of a region file.
+#[derive(Clone, Copy, Debug, PartialEq, Eq, Hash)]
+pub struct FileVisit {
+    /// The number of the record in the file.
+    pub record: u32,
+    /// The index in the record, from 0.
+    pub index: u32,
+    /// The position to the right, in micrometres.
+    pub x: i32,
+    /// The position down.
+    pub y: i32,
+}
+
+/// Judges a whole file. Refused under 11, 2, 12, then at each link of the chain under 13, 14, 10 or
+/// 15.
+///
+/// ```
+/// use vektrid::{judge, Refusal};
+///
+/// assert_eq!(judge(&[0; 40]), Err(Refusal::FileLength));
+/// ```
+pub fn judge(file: &[u8]) -> Result<(), Refusal> {
+    // SAFETY: the pointer and the length are those of one lent slice.
+    judged(unsafe { raw::vektrid_judge(file.as_ptr(), file.len()) })
+}
+
+/// The visits of a file, records in the order of the chain, or the refusal that [`judge`] gives.
+///
+/// ```
+/// use vektrid::{visits, FileVisit, Refusal};
+///
+/// let fields = [1, 2, 0, 0, 0, 0, 0, 0, 0, 70, 90, 1000, 800, 0, 0, 2_u32];
+/// let file: Vec<u8> = fields.iter().flat_map(|field| field.to_le_bytes()).collect();
+/// let mut visits = visits(&file)?;
+/// assert_eq!(visits.next(), Some(FileVisit { record: 1, index: 0, x: 70, y: 90 }));
+/// assert_eq!(visits.next(), Some(FileVisit { record: 1, index: 1, x: 570, y: 490 }));
+/// assert_eq!(visits.next(), None);
+/// # Ok::<(), Refusal>(())
+/// ```
+pub fn visits(file: &[u8]) -> Result<Visits<'_>, Refusal> {
+    let mut place = Place { words: [0; 11] };
+    // SAFETY: a lent slice with its length, and a variable.
+    judged(unsafe { raw::vektrid_visits_open(file.as_ptr(), file.len(), &mut place) })?;
+    Ok(Visits { file, place })
+}
+
+/// The visits of a region file, given by [`visits`].
+#[derive(Clone, Debug)]
+pub struct Visits<'a> {
+    file: &'a [u8],
+    place: Place,
+}
+
+impl<'a> Visits<'a> {
+    /// Goes on at a place that was kept. A place of another file, or one made by hand, gives some
+    /// visits or none.
+    pub fn at(file: &'a [u8], place: Place) -> Visits<'a> {
+        Visits { file, place }
+    }
+
+    /// The place behind the last visit given, for [`Visits::at`].
+    pub fn place(&self) -> Place {
+        self.place
+    }
+}
+
+impl Iterator for Visits<'_> {
+    type Item = FileVisit;
+
+    fn next(&mut self) -> Option<FileVisit> {
+        let mut given = 0;
+        let mut visit = FileVisit { record: 0, index: 0, x: 0, y: 0 };
+        // SAFETY: a lent slice with its length; the others are variables and fields, all apart.
+        unsafe {
+            raw::vektrid_visits_step(
+                self.file.as_ptr(),
+                self.file.len(),
+                &mut self.place,
+                &mut given,
+                &mut visit.record,
+                &mut visit.index,
+                &mut visit.x,
+                &mut visit.y,
+            );
+        }
+        (given != 0).then_some(visit)
+    }
+}
+
+/// After the end a step gives the end again, whatever the place was.
+impl FusedIterator for Visits<'_> {}

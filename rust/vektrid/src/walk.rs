@@ -1,0 +1,162 @@
+//! Walks: cursors over visits, stepped by value.
+
+use std::iter::FusedIterator;
+
+use crate::pair::Pair;
+use crate::points::{Point, Shift};
+use crate::raw;
+use crate::refusal::{judged, Refusal};
+use crate::unit::Singles;
+
+/// A cursor over visits (01: a walk). The fields are open: a walk made by hand is stepped too.
+///
+/// ```
+/// use vektrid::{Pair, Point, Refusal, Shift, Visit, Walk};
+///
+/// let (pair, shift) = (Pair::standard(), Shift::default());
+/// let walk = Walk::open(2, 1)?;
+/// let (visit, walk) = walk.step(&pair, shift);
+/// let point = Point { x: 0x4000_0000, y: 0xC000_0000 };
+/// assert_eq!(visit, Some(Visit { index: 2, point }));
+/// assert_eq!(walk.step(&pair, shift), (None, Walk { next: 3, left: 0 }));
+/// # Ok::<(), Refusal>(())
+/// ```
+#[derive(Clone, Copy, Debug, PartialEq, Eq, Hash)]
+pub struct Walk {
+    /// The next index.
+    pub next: u32,
+    /// How many visits are left.
+    pub left: u64,
+}
+
+/// An index with its point.
+#[derive(Clone, Copy, Debug, PartialEq, Eq, Hash)]
+pub struct Visit {
+    /// The index.
+    pub index: u32,
+    /// Its point.
+    pub point: Point,
+}
+
+/// An index with its point as two singles.
+#[derive(Clone, Copy, Debug, PartialEq)]
+pub struct SinglesVisit {
+    /// The index.
+    pub index: u32,
+    /// Its point.
+    pub singles: Singles,
+}
+
+impl Walk {
+    /// A walk over `count` visits from `start` on. Refused under 9.
+    pub fn open(start: u32, count: u64) -> Result<Walk, Refusal> {
+        let mut walk = Walk { next: 0, left: 0 };
+        // SAFETY: two fields of one variable.
+        judged(unsafe { raw::vektrid_walk_open(start, count, &mut walk.next, &mut walk.left) })?;
+        Ok(walk)
+    }
+
+    /// The next visit, or none where the walk has ended, and the walk after the step.
+    pub fn step(self, pair: &Pair, shift: Shift) -> (Option<Visit>, Walk) {
+        self.step_words(pair.words(), shift).expect("a pair has 64 words")
+    }
+
+    /// The same with the point as two singles.
+    pub fn step_singles(self, pair: &Pair, shift: Shift) -> (Option<SinglesVisit>, Walk) {
+        self.step_singles_words(pair.words(), shift).expect("a pair has 64 words")
+    }
+
+    /// The visits that are left, one for each step.
+    ///
+    /// ```
+    /// use vektrid::{Pair, Refusal, Shift, Walk};
+    ///
+    /// let pair = Pair::standard();
+    /// let steps = Walk::open(4_294_967_293, 3)?.steps(&pair, Shift::default());
+    /// let indexes: Vec<u32> = steps.map(|visit| visit.index).collect();
+    /// assert_eq!(indexes, [4_294_967_293, 4_294_967_294, 4_294_967_295]);
+    /// # Ok::<(), Refusal>(())
+    /// ```
+    pub fn steps(self, pair: &Pair, shift: Shift) -> Steps<'_> {
+        Steps { walk: self, pair, shift }
+    }
+
+    /// A step for any number of words. Refused under 1.
+    pub fn step_words(
+        mut self,
+        words: &[u32],
+        shift: Shift,
+    ) -> Result<(Option<Visit>, Walk), Refusal> {
+        let (mut given, mut index, mut point) = (0, 0, Point { x: 0, y: 0 });
+        // SAFETY: the words are a lent slice with its length; the others are variables and fields,
+        // all apart.
+        judged(unsafe {
+            raw::vektrid_walk_step(
+                words.as_ptr(),
+                words.len(),
+                shift.x,
+                shift.y,
+                &mut self.next,
+                &mut self.left,
+                &mut given,
+                &mut index,
+                &mut point.x,
+                &mut point.y,
+            )
+        })?;
+        Ok(((given != 0).then_some(Visit { index, point }), self))
+    }
+
+    /// A step with two singles for any number of words. Refused under 1.
+    pub fn step_singles_words(
+        mut self,
+        words: &[u32],
+        shift: Shift,
+    ) -> Result<(Option<SinglesVisit>, Walk), Refusal> {
+        let (mut given, mut index, mut singles) = (0, 0, Singles { x: 0.0, y: 0.0 });
+        // SAFETY: as in `step_words`.
+        judged(unsafe {
+            raw::vektrid_walk_step_singles(
+                words.as_ptr(),
+                words.len(),
+                shift.x,
+                shift.y,
+                &mut self.next,
+                &mut self.left,
+                &mut given,
+                &mut index,
+                &mut singles.x,
+                &mut singles.y,
+            )
+        })?;
+        Ok(((given != 0).then_some(SinglesVisit { index, singles }), self))
+    }
+}
+
+/// The visits of a walk, given by [`Walk::steps`].
+#[derive(Clone, Debug)]
+pub struct Steps<'a> {
+    walk: Walk,
+    pair: &'a Pair,
+    shift: Shift,
+}
+
+impl Steps<'_> {
+    /// The walk over the visits not given yet.
+    pub fn walk(&self) -> Walk {
+        self.walk
+    }
+}
+
+impl Iterator for Steps<'_> {
+    type Item = Visit;
+
+    fn next(&mut self) -> Option<Visit> {
+        let (visit, after) = self.walk.step(self.pair, self.shift);
+        self.walk = after;
+        visit
+    }
+}
+
+/// With no visits left a step changes nothing, so the end stays the end.
+impl FusedIterator for Steps<'_> {}

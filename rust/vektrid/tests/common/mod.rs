@@ -1,0 +1,24 @@
+//! The example file of document 01, and files with one of its fields changed.
+
+// Each test program uses a part of it.
+#![allow(dead_code)]
+
+/// Places of fields in the example file, in words.
+pub const LEVEL: usize = 1;
+pub const RESERVED: usize = 2;
+pub const NEXT: usize = 8;
+pub const WIDTH: usize = 11;
+pub const COUNT: usize = 15;
+
+/// First record 1, level 2; record 1 = 0, -500, 0, 1000, 800, 0, 0, 4.
+const EXAMPLE: [u32; 16] = [1, 2, 0, 0, 0, 0, 0, 0, 0, -500_i32 as u32, 0, 1000, 800, 0, 0, 4];
+
+pub fn example() -> Vec<u8> {
+    EXAMPLE.iter().flat_map(|field| field.to_le_bytes()).collect()
+}
+
+pub fn example_with(field: usize, value: u32) -> Vec<u8> {
+    let mut file = example();
+    file[4 * field..][..4].copy_from_slice(&value.to_le_bytes());
+    file
+}

@@ -1,0 +1,194 @@
+//! A refused call leaves every lent word and buffer as it was, but for the values that refusal 3
+//! gives. The safe calls keep most of these words to themselves, so the C calls are used here.
+
+use vektrid::{fill_words, raw, standard_words, Pair, Refusal, Shift};
+
+const MARK: u32 = 0xDEAD_BEEF;
+const NO_SHIFT: Shift = Shift { x: 0, y: 0 };
+
+fn single_mark() -> f32 {
+    f32::from_bits(MARK)
+}
+
+#[test]
+fn standard_pair_needs_all_its_words() {
+    for length in [0, 1, 63, 65, 128] {
+        let mut words = vec![MARK; length];
+        assert_eq!(standard_words(&mut words), Err(Refusal::WordCount));
+        assert_eq!(words, vec![MARK; length]);
+    }
+}
+
+/// Buffers in the middle of larger ones; the places around are looked at too.
+#[test]
+fn refused_fill_writes_nothing() {
+    let cases = [
+        (63, 0, 4, 4, Refusal::WordCount),
+        (64, 0, 4, 5, Refusal::BufferLengths),
+        (64, 0, 0, 1, Refusal::BufferLengths),
+        (64, u32::MAX, 2, 2, Refusal::IndexRange),
+        (64, u32::MAX - 99, 101, 101, Refusal::IndexRange),
+    ];
+    let pair = Pair::standard();
+    for (count, start, x_length, y_length, refusal) in cases {
+        let words = &pair.words()[..count];
+        let (mut xs, mut ys) = ([MARK; 128], [MARK; 128]);
+        let (x_part, y_part) = (&mut xs[8..8 + x_length], &mut ys[8..8 + y_length]);
+        assert_eq!(fill_words(words, NO_SHIFT, start, x_part, y_part), Err(refusal));
+        assert_eq!((xs, ys), ([MARK; 128], [MARK; 128]));
+    }
+}
+
+#[test]
+fn accepted_fill_writes_its_places_only() {
+    let (mut xs, mut ys) = ([MARK; 128], [MARK; 128]);
+    Pair::standard().fill(NO_SHIFT, 0, &mut xs[8..108], &mut ys[8..108]).unwrap();
+    for (at, (x, y)) in xs.into_iter().zip(ys).enumerate() {
+        let point = Pair::standard().point(NO_SHIFT, (at as u32).wrapping_sub(8));
+        let expected = if (8..108).contains(&at) { (point.x, point.y) } else { (MARK, MARK) };
+        assert_eq!((x, y), expected);
+    }
+}
+
+#[test]
+fn refused_check_keeps_its_words() {
+    let pair = Pair::standard();
+    let words = pair.words();
+    for (count, level, number) in [(63, 2, 1), (64, 0, 2), (64, 33, 2)] {
+        let (mut m, mut a, mut j) = (MARK, MARK, MARK);
+        // SAFETY: at most 64 words of an array of 64, and three variables.
+        let answer =
+            unsafe { raw::vektrid_check(words.as_ptr(), count, level, &mut m, &mut a, &mut j) };
+        assert_eq!((answer, m, a, j), (number, MARK, MARK, MARK));
+    }
+}
+
+#[test]
+fn refused_point_keeps_its_words() {
+    let words = [0; 63];
+    let (mut x, mut y) = (MARK, MARK);
+    // SAFETY: an array with its length, and two variables.
+    let answer = unsafe { raw::vektrid_point(words.as_ptr(), 63, 0, 0, 5, &mut x, &mut y) };
+    assert_eq!((answer, x, y), (1, MARK, MARK));
+    let (mut x, mut y) = (single_mark(), single_mark());
+    // SAFETY: as above.
+    let answer = unsafe { raw::vektrid_point_singles(words.as_ptr(), 63, 0, 0, 5, &mut x, &mut y) };
+    assert_eq!((answer, x.to_bits(), y.to_bits()), (1, MARK, MARK));
+}
+
+#[test]
+fn refused_opening_keeps_its_words() {
+    let (mut next, mut left) = (MARK, 77);
+    // SAFETY: two variables.
+    let answer = unsafe { raw::vektrid_walk_open(u32::MAX, 2, &mut next, &mut left) };
+    assert_eq!((answer, next, left), (9, MARK, 77));
+}
+
+/// The answer of a step, and then all its words, from a walk of `left` visits at index 3.
+fn step(words: &[u32], left: u64) -> (u32, [u32; 5], u64) {
+    let (mut next, mut after) = (3, left);
+    let (mut given, mut index, mut x, mut y) = (MARK, MARK, MARK, MARK);
+    // SAFETY: a lent slice with its length, and six variables.
+    let answer = unsafe {
+        raw::vektrid_walk_step(
+            words.as_ptr(),
+            words.len(),
+            0,
+            0,
+            &mut next,
+            &mut after,
+            &mut given,
+            &mut index,
+            &mut x,
+            &mut y,
+        )
+    };
+    (answer, [next, given, index, x, y], after)
+}
+
+/// The same with singles, as their bits.
+fn step_singles(words: &[u32], left: u64) -> (u32, [u32; 5], u64) {
+    let (mut next, mut after) = (3, left);
+    let (mut given, mut index, mut x, mut y) = (MARK, MARK, single_mark(), single_mark());
+    // SAFETY: as in `step`.
+    let answer = unsafe {
+        raw::vektrid_walk_step_singles(
+            words.as_ptr(),
+            words.len(),
+            0,
+            0,
+            &mut next,
+            &mut after,
+            &mut given,
+            &mut index,
+            &mut x,
+            &mut y,
+        )
+    };
+    (answer, [next, given, index, x.to_bits(), y.to_bits()], after)
+}
+
+#[test]
+fn refused_step_keeps_its_words() {
+    for left in [0, 1, u64::MAX] {
+        let kept = (1, [3, MARK, MARK, MARK, MARK], left);
+        assert_eq!(step(&[0; 63], left), kept);
+        assert_eq!(step_singles(&[0; 63], left), kept);
+    }
+}
+
+#[test]
+fn ended_walk_keeps_the_visit() {
+    let pair = Pair::standard();
+    let kept = (0, [3, 0, MARK, MARK, MARK], 0);
+    assert_eq!(step(pair.words(), 0), kept);
+    assert_eq!(step_singles(pair.words(), 0), kept);
+    let given = (0, [4, 1, 3, 0xC000_0000, 0x4000_0000], 6);
+    assert_eq!(step(pair.words(), 7), given);
+    let singles = (0, [4, 1, 3, 0.75_f32.to_bits(), 0.25_f32.to_bits()], 6);
+    assert_eq!(step_singles(pair.words(), 7), singles);
+}
+
+/// The answer of a query and its two words.
+fn query(words: &[u32], level: u32, [m, a, column, row, block]: [u32; 5]) -> [u32; 3] {
+    let (mut index, mut j) = (MARK, MARK);
+    // SAFETY: a lent slice with its length, and two variables.
+    let answer = unsafe {
+        raw::vektrid_query(
+            words.as_ptr(),
+            words.len(),
+            0,
+            0,
+            level,
+            m,
+            a,
+            column,
+            row,
+            block,
+            &mut index,
+            &mut j,
+        )
+    };
+    [answer, index, j]
+}
+
+#[test]
+fn refused_query_keeps_its_words() {
+    assert_eq!(query(&[0; 63], 2, [2, 1, 1, 0, 0]), [1, MARK, MARK]);
+    let zero = [0; 64];
+    assert_eq!(query(&zero, 33, [2, 1, 1, 0, 0]), [2, MARK, MARK]);
+    assert_eq!(query(&zero, 2, [3, 1, 1, 0, 0]), [4, MARK, MARK]);
+    assert_eq!(query(&zero, 2, [2, 3, 1, 0, 0]), [5, MARK, MARK]);
+    assert_eq!(query(&zero, 2, [2, 1, 2, 0, 0]), [6, MARK, MARK]);
+    assert_eq!(query(&zero, 4, [4, 1, 1, 0, 1 << 28]), [7, MARK, MARK]);
+    // 3 gives the least index and no answer.
+    assert_eq!(query(&zero, 2, [2, 1, 1, 0, 0]), [3, MARK, 1]);
+}
+
+#[test]
+fn refused_position_keeps_its_words() {
+    let (mut x, mut y) = (-77, -78);
+    // SAFETY: two variables.
+    let answer = unsafe { raw::vektrid_position(0, 0, 0, 1, 9, 9, &mut x, &mut y) };
+    assert_eq!((answer, x, y), (10, -77, -78));
+}

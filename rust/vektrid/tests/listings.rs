@@ -1,0 +1,71 @@
+//! The example listing of document 01, its visits, and its pages.
+
+mod common;
+
+use common::{example, example_with, COUNT, NEXT};
+use vektrid::{listing, visits, FileVisit, Listing, Visits, LONGEST_LINE};
+
+const EXAMPLE: &str = "record visit x y\n1 0 -500 0\n1 1 0 400\n1 2 -250 600\n1 3 250 200\n";
+
+fn text(file: &[u8]) -> String {
+    String::from_utf8(listing(file)).unwrap()
+}
+
+#[test]
+fn listing_of_the_example() {
+    assert_eq!(text(&example()), EXAMPLE);
+}
+
+#[test]
+fn visits_of_the_example() {
+    let file = example();
+    let places = [(-500, 0), (0, 400), (-250, 600), (250, 200)];
+    let expected = (0..).zip(places).map(|(index, (x, y))| FileVisit { record: 1, index, x, y });
+    assert!(visits(&file).unwrap().eq(expected));
+}
+
+#[test]
+fn refused_file_has_one_line() {
+    assert_eq!(text(&example()[..40]), "refused 11\n");
+    assert_eq!(text(&example_with(NEXT, 1)), "refused 14\n");
+}
+
+#[test]
+fn chain_without_visits_has_only_the_header() {
+    assert_eq!(text(&example_with(COUNT, 0)), "record visit x y\n");
+    assert_eq!(text(&example_with(0, 0)), "record visit x y\n");
+}
+
+#[test]
+fn places_and_cursors_can_be_kept() {
+    let file = example();
+    let mut first = visits(&file).unwrap();
+    first.next();
+    let kept: Vec<FileVisit> = Visits::at(&file, first.place()).collect();
+    assert_eq!(kept, first.collect::<Vec<_>>());
+    assert_eq!(kept.len(), 3);
+    let mut first = Listing::open(&file);
+    let mut page = [0; LONGEST_LINE];
+    let length = first.page(&mut page);
+    let rest = Listing::at(&file, first.cursor()).flatten();
+    let joined: Vec<u8> = page[..length].iter().copied().chain(rest).collect();
+    assert_eq!(joined, EXAMPLE.as_bytes());
+}
+
+/// A listing of 4,096 visits takes many pages, and the pages make the listing.
+#[test]
+fn long_listing_comes_in_pages() {
+    let file = example_with(COUNT, 4_096);
+    let pages: Vec<Vec<u8>> = Listing::open(&file).collect();
+    assert!(pages.len() > 10);
+    assert!(pages.iter().all(|page| page.ends_with(b"\n")));
+    let text = pages.concat();
+    assert_eq!(text, listing(&file));
+    let lines: Vec<&[u8]> = text.split(|&byte| byte == b'\n').collect();
+    assert_eq!(lines.len(), 4_098);
+    assert_eq!(lines[4_096], line(visits(&file).unwrap().last().unwrap()).as_bytes());
+}
+
+fn line(visit: FileVisit) -> String {
+    format!("{} {} {} {}", visit.record, visit.index, visit.x, visit.y)
+}

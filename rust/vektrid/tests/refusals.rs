@@ -1,0 +1,173 @@
+//! Every refusal with its example from the table of document 01, and the order of refusals.
+
+mod common;
+
+use common::{example, example_with, COUNT, LEVEL, NEXT, RESERVED, WIDTH};
+use vektrid::{
+    check_words, fill_words, judge, point_singles_words, point_words, query_words, standard_words,
+    visits, Cell, Pair, Refusal, Region, Shift, Walk,
+};
+
+const NO_SHIFT: Shift = Shift { x: 0, y: 0 };
+const CELL: Cell = Cell { m: 2, a: 1, column: 1, row: 0, block: 0 };
+const REGION: Region = Region { left: -500, top: 0, width: 1000, height: 800 };
+
+fn twice() -> Pair {
+    let mut words = *Pair::standard().words();
+    words.copy_within(..32, 32);
+    Pair::from_words(&words).unwrap()
+}
+
+fn query(level: u32, cell: Cell) -> Result<u32, Refusal> {
+    Pair::standard().query(NO_SHIFT, level, cell)
+}
+
+#[test]
+fn one_for_63_words_in_every_call() {
+    let standard = Pair::standard();
+    let long = [standard.words().as_slice(), &[0]].concat();
+    for words in [&standard.words()[..63], &long, &[]] {
+        let one = Refusal::WordCount;
+        assert_eq!(Pair::from_words(words), Err(one));
+        assert_eq!(standard_words(&mut words.to_vec()), Err(one));
+        assert_eq!(check_words(words, 2), Err(one));
+        assert_eq!(point_words(words, NO_SHIFT, 5), Err(one));
+        assert_eq!(point_singles_words(words, NO_SHIFT, 5), Err(one));
+        assert_eq!(fill_words(words, NO_SHIFT, 0, &mut [0; 4], &mut [0; 4]), Err(one));
+        let walk = Walk { next: 0, left: 4 };
+        assert_eq!(walk.step_words(words, NO_SHIFT), Err(one));
+        assert_eq!(walk.step_singles_words(words, NO_SHIFT), Err(one));
+        assert_eq!(query_words(words, NO_SHIFT, 2, CELL), Err(one));
+    }
+}
+
+/// Every later refusal is due as well.
+#[test]
+fn one_comes_first() {
+    let words = [0; 63];
+    assert_eq!(check_words(&words, 33), Err(Refusal::WordCount));
+    let worst = fill_words(&words, NO_SHIFT, u32::MAX, &mut [0; 4], &mut [0; 5]);
+    assert_eq!(worst, Err(Refusal::WordCount));
+    let cell = Cell { m: 33, a: 34, column: 1, row: 1, block: 1 };
+    assert_eq!(query_words(&words, NO_SHIFT, 0, cell), Err(Refusal::WordCount));
+}
+
+#[test]
+fn two_for_a_level_of_33() {
+    for level in [0, 33, u32::MAX] {
+        assert_eq!(Pair::standard().check(level), Err(Refusal::Level));
+        assert_eq!(query(level, CELL), Err(Refusal::Level));
+        assert_eq!(judge(&example_with(LEVEL, level)), Err(Refusal::Level));
+    }
+}
+
+#[test]
+fn three_for_the_identity_twice() {
+    let not_net = Refusal::NotNet { m: 2, a: 1, j: 2 };
+    assert_eq!(twice().check(1), Ok(()));
+    assert_eq!(twice().check(2), Err(not_net));
+    assert_eq!(twice().check(32), Err(not_net));
+    assert_eq!(twice().query(NO_SHIFT, 2, CELL), Err(not_net));
+}
+
+#[test]
+fn four_to_seven_of_a_query() {
+    assert_eq!(query(2, Cell { m: 3, ..CELL }), Err(Refusal::Size));
+    assert_eq!(query(2, Cell { a: 3, ..CELL }), Err(Refusal::Shape));
+    assert_eq!(query(2, Cell { column: 2, ..CELL }), Err(Refusal::Cell));
+    assert_eq!(query(2, Cell { row: 2, ..CELL }), Err(Refusal::Cell));
+    assert_eq!(query(32, Cell { m: 4, block: 268_435_456, ..CELL }), Err(Refusal::Block));
+    assert!(query(32, Cell { m: 4, block: 268_435_455, ..CELL }).is_ok());
+}
+
+/// With the zero pair every later refusal is due too: 2, 4, 5, 6, 7, 3.
+#[test]
+fn refusals_of_a_query_come_in_order() {
+    let most = u32::MAX;
+    let steps = [
+        (33, [most; 5], 2),
+        (2, [most; 5], 4),
+        (2, [2, most, most, most, most], 5),
+        (2, [2, 1, most, most, most], 6),
+        (2, [2, 1, 1, 1, most], 7),
+        (2, [2, 1, 1, 1, 0], 3),
+    ];
+    for (level, [m, a, column, row, block], number) in steps {
+        let cell = Cell { m, a, column, row, block };
+        let refusal = query_words(&[0; 64], NO_SHIFT, level, cell).unwrap_err();
+        assert_eq!(refusal.number(), number);
+    }
+}
+
+#[test]
+fn eight_and_nine_of_a_fill() {
+    let pair = Pair::standard();
+    let fill = |start, xs: usize, ys: usize| {
+        pair.fill(NO_SHIFT, start, &mut vec![0; xs], &mut vec![0; ys])
+    };
+    assert_eq!(fill(0, 4, 5), Err(Refusal::BufferLengths));
+    assert_eq!(fill(u32::MAX, 4, 5), Err(Refusal::BufferLengths));
+    assert_eq!(fill(u32::MAX, 2, 2), Err(Refusal::IndexRange));
+    assert_eq!(fill(u32::MAX, 1, 1), Ok(()));
+    assert_eq!(fill(u32::MAX, 0, 0), Ok(()));
+}
+
+#[test]
+fn nine_of_a_walk() {
+    assert_eq!(Walk::open(u32::MAX, 2), Err(Refusal::IndexRange));
+    assert_eq!(Walk::open(0, (1 << 32) + 1), Err(Refusal::IndexRange));
+    assert_eq!(Walk::open(1, u64::MAX), Err(Refusal::IndexRange));
+    assert_eq!(Walk::open(u32::MAX, 1), Ok(Walk { next: u32::MAX, left: 1 }));
+    assert_eq!(Walk::open(0, 1 << 32), Ok(Walk { next: 0, left: 1 << 32 }));
+}
+
+#[test]
+fn ten_at_every_limit() {
+    let refused = [
+        Region { width: 0, ..REGION },
+        Region { width: 1_000_001, ..REGION },
+        Region { height: 0, ..REGION },
+        Region { height: 1_000_001, ..REGION },
+        Region { left: -1_000_001, ..REGION },
+        Region { left: 1_000_001, ..REGION },
+        Region { top: i32::MIN, ..REGION },
+        Region { top: i32::MAX, ..REGION },
+    ];
+    for region in refused {
+        assert_eq!(region.position(0, 0), Err(Refusal::Region));
+    }
+    assert_eq!(judge(&example_with(WIDTH, 0)), Err(Refusal::Region));
+}
+
+#[test]
+fn eleven_to_fifteen_of_a_file() {
+    let refused = [
+        (example()[..40].to_vec(), Refusal::FileLength),
+        (Vec::new(), Refusal::FileLength),
+        (vec![0; 65_568], Refusal::FileLength),
+        (example_with(RESERVED, 1), Refusal::Header),
+        (example_with(NEXT, 5), Refusal::MissingRecord),
+        (example_with(NEXT, 1), Refusal::ChainReturns),
+        (example_with(COUNT, 4_097), Refusal::VisitCount),
+    ];
+    for (file, refusal) in refused {
+        assert_eq!(judge(&file), Err(refusal));
+        assert_eq!(visits(&file).err(), Some(refusal));
+    }
+    assert_eq!(judge(&example()), Ok(()));
+    assert_eq!(judge(&example_with(COUNT, 4_096)), Ok(()));
+}
+
+#[test]
+fn refusals_say_what_was_wrong() {
+    let not_net = twice().check(2).unwrap_err().to_string();
+    assert_eq!(
+        not_net,
+        "refusal 3: not a net: index 2 shares a cell of the shape (2, 1) with index 0"
+    );
+    let region: Box<dyn std::error::Error> = Box::new(Refusal::Region);
+    assert_eq!(
+        region.to_string(),
+        "refusal 10: an edge or an extent of the region is outside its limits"
+    );
+}
