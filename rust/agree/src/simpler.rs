@@ -1,0 +1,121 @@
+//! Simpler numbers, shifts, pairs and files, for the search for a small case.
+
+use vektrid::Shift;
+
+use crate::pairs::{standard, Words};
+
+/// Smaller numbers: 0 first, then nearer and nearer ones, and the number without one of its bits.
+pub fn simpler_number(number: u64) -> Vec<u64> {
+    let steps = (0..64).map(|k| number >> k).take_while(|&step| step > 0);
+    let bits = (0..64).map(|k| 1 << k).filter(|bit| number & bit != 0);
+    steps.chain(bits).map(|less| number - less).collect()
+}
+
+pub fn simpler_word(word: u32) -> Vec<u32> {
+    simpler_number(u64::from(word)).into_iter().map(|number| number as u32).collect()
+}
+
+/// Numbers nearer to 0 from either side.
+pub fn simpler_signed(number: i32) -> Vec<i32> {
+    let magnitudes = simpler_word(number.unsigned_abs()).into_iter();
+    // A simpler magnitude is below 2^31, so the cast keeps it.
+    magnitudes.map(|magnitude| magnitude as i32 * number.signum()).collect()
+}
+
+pub fn simpler_shift(shift: Shift) -> Vec<Shift> {
+    let xs = simpler_word(shift.x).into_iter().map(|x| Shift { x, ..shift });
+    xs.chain(simpler_word(shift.y).into_iter().map(|y| Shift { y, ..shift })).collect()
+}
+
+/// Pairs nearer to the standard pair, or else with fewer ones. A word of the standard pair is
+/// simplest, then 0, then words by their ones; each change makes one word simpler.
+pub fn simpler_pair(words: &Words) -> Vec<Words> {
+    let standard = standard();
+    let mut simpler = Vec::new();
+    if *words != standard {
+        simpler.push(standard);
+    }
+    for (at, (&word, &plain)) in words.iter().zip(&standard).enumerate() {
+        for value in simpler_column(word, plain) {
+            let mut changed = *words;
+            changed[at] = value;
+            simpler.push(changed);
+        }
+    }
+    simpler
+}
+
+fn simpler_column(word: u32, plain: u32) -> Vec<u32> {
+    if word == plain {
+        return Vec::new();
+    }
+    let fewer = (0..32).map(|k| word & !(1 << k)).filter(|&fewer| fewer != word && fewer != 0);
+    let zero = (word != 0).then_some(0);
+    [plain].into_iter().chain(zero).chain(fewer).collect()
+}
+
+/// Files with one field smaller.
+pub fn simpler_file(file: &[u8]) -> Vec<Vec<u8>> {
+    let mut simpler = Vec::new();
+    for (at, field) in file.chunks_exact(4).enumerate() {
+        let number = u32::from_le_bytes([field[0], field[1], field[2], field[3]]);
+        for less in simpler_word(number) {
+            let mut changed = file.to_vec();
+            changed[4 * at..][..4].copy_from_slice(&less.to_le_bytes());
+            simpler.push(changed);
+        }
+    }
+    simpler
+}
+
+#[cfg(test)]
+mod tests {
+    use super::*;
+
+    #[test]
+    fn simpler_numbers_are_smaller() {
+        assert_eq!(simpler_number(0), []);
+        assert_eq!(simpler_number(6)[..3], [0, 3, 5]);
+        for number in [1, 77, 1 << 40, u64::MAX] {
+            assert!(simpler_number(number).iter().all(|&simpler| simpler < number));
+        }
+        assert!(simpler_signed(i32::MIN).iter().all(|&simpler| simpler > i32::MIN && simpler <= 0));
+        assert!(simpler_signed(9).iter().all(|simpler| (0..9).contains(simpler)));
+    }
+
+    fn rank(words: &Words) -> u32 {
+        let ranks =
+            words.iter().zip(standard()).map(
+                |(&word, plain)| {
+                    if word == plain {
+                        0
+                    } else {
+                        1 + word.count_ones()
+                    }
+                },
+            );
+        ranks.sum()
+    }
+
+    #[test]
+    fn simpler_pairs_fall_in_rank() {
+        let words: Words = std::array::from_fn(|at| at as u32 * 0x0123_4567);
+        let simpler = simpler_pair(&words);
+        assert!(simpler.len() > 200);
+        assert!(simpler.iter().all(|simpler| rank(simpler) < rank(&words)));
+        assert!(simpler_pair(&standard()).is_empty());
+    }
+
+    #[test]
+    fn simpler_files_have_one_field_smaller() {
+        let file = [0, 1, 0, 0, 2, 0, 0, 0, 9];
+        let expected = [
+            [0, 0, 0, 0, 2, 0, 0, 0, 9],
+            [0x80, 0, 0, 0, 2, 0, 0, 0, 9],
+            [0, 1, 0, 0, 0, 0, 0, 0, 9],
+            [0, 1, 0, 0, 1, 0, 0, 0, 9],
+        ];
+        let simpler = simpler_file(&file);
+        assert!(expected.iter().all(|file| simpler.contains(&file.to_vec())));
+    }
+}

@@ -1,0 +1,65 @@
+//! Cases as Rust, to be pasted into a test of rust/vektrid.
+
+use std::fmt::Debug;
+
+use vektrid::{FileVisit, Refusal};
+
+use crate::pairs::{standard, Words};
+
+/// `let pair = ..`, by the changes to the standard pair.
+pub fn let_pair(words: &Words) -> String {
+    let standard = standard();
+    if *words == standard {
+        return "let pair = Pair::standard();".to_string();
+    }
+    if *words == [0; 64] {
+        return "let pair = Pair::from_words(&[0; 64]).unwrap();".to_string();
+    }
+    let mut lines = vec!["let mut words = *Pair::standard().words();".to_string()];
+    for (at, (word, plain)) in words.iter().zip(&standard).enumerate() {
+        if word != plain {
+            lines.push(format!("words[{at}] = 0x{word:08X};"));
+        }
+    }
+    lines.push("let pair = Pair::from_words(&words).unwrap();".to_string());
+    lines.join("\n")
+}
+
+/// An answer with the full name of its refusal.
+pub fn answer<T: Debug>(answer: &Result<T, Refusal>) -> String {
+    match answer {
+        Ok(value) => format!("Ok({value:?})"),
+        Err(refusal) => format!("Err(Refusal::{refusal:?})"),
+    }
+}
+
+/// The visits of a file, or their refusal.
+pub fn visits(visits: &Result<Vec<FileVisit>, Refusal>) -> String {
+    match visits {
+        Ok(visits) => format!("Ok(vec!{visits:?})"),
+        Err(_) => answer(visits),
+    }
+}
+
+#[cfg(test)]
+mod tests {
+    use super::*;
+
+    #[test]
+    fn pairs_are_told_by_their_changes() {
+        let mut words = standard();
+        assert_eq!(let_pair(&words), "let pair = Pair::standard();");
+        words[33] = 7;
+        let text = "let mut words = *Pair::standard().words();\n\
+                    words[33] = 0x00000007;\n\
+                    let pair = Pair::from_words(&words).unwrap();";
+        assert_eq!(let_pair(&words), text);
+    }
+
+    #[test]
+    fn refusals_have_their_full_name() {
+        let refused: Result<u32, Refusal> = Err(Refusal::NotNet { m: 2, a: 1, j: 2 });
+        assert_eq!(answer(&refused), "Err(Refusal::NotNet { m: 2, a: 1, j: 2 })");
+        assert_eq!(answer(&Ok::<u32, Refusal>(3)), "Ok(3)");
+    }
+}
