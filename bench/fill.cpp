@@ -1,0 +1,143 @@
+// Fills: 2^20 points into two buffers of words.
+#include <string>
+#include <vector>
+
+#include "../include/vektrid.h"
+#include "libraries.hpp"
+#include "peers.hpp"
+#include "report.hpp"
+
+namespace {
+
+constexpr size_t kPoints = size_t{1} << 20;
+constexpr double kMillions = kPoints / 1e6;
+
+struct Buffers {
+    std::vector<uint32_t> xs, ys;
+    explicit Buffers(size_t n) : xs(n), ys(n) {}
+    Target target() { return {xs.data(), ys.data(), xs.size()}; }
+    bool operator==(const Buffers&) const = default;
+};
+
+bool our_fill(const Pair& pair, Shift shift, uint32_t start, Target to) {
+    return vektrid_fill(pair.data(), 64, shift.x, shift.y, start, to.xs, to.n, to.ys, to.n) == 0;
+}
+
+// All points of our fill, against each way of plain C++ that takes the pair.
+void compare_whole(Report& report, const Pair& pair, const std::string& name, uint32_t start) {
+    Buffers ours(kPoints), theirs(kPoints);
+    const std::string what = "fill, " + name + ", from index " + std::to_string(start) + ", against C++ ";
+    report.compare(our_fill(pair, kShift, start, ours.target()), what + "(ours refuses)");
+    fill_pbrt(pair, kShift, start, theirs.target());
+    report.compare(ours == theirs, what + "PBRT loop");
+    fill_prefix(pair, kShift, start, theirs.target());
+    report.compare(ours == theirs, what + "prefix table");
+    fill_groups(pair, kShift, start, theirs.target());
+    report.compare(ours == theirs, what + "groups of 64");
+}
+
+void compare_listing19(Report& report, const Pair& standard) {
+    Buffers ours(kPoints), theirs(kPoints);
+    our_fill(standard, kShift, 0, ours.target());
+    fill_listing19(kShift, 0, theirs.target());
+    report.compare(ours == theirs, "fill, standard pair, against C++ listing 19");
+}
+
+// Short fills at odd places, up to the last index; the words beside them keep their content.
+void compare_short(Report& report, const Pair& pair) {
+    constexpr size_t room = 400, before = 3;
+    const std::vector<uint32_t> random = random_words(1000, 3);
+    for (size_t i = 0; i + 1 < random.size(); i += 2) {
+        const size_t n = random[i] % 300;
+        const uint32_t last = 0u - static_cast<uint32_t>(n);
+        const uint32_t start = i % 8 == 0 && n > 0 ? last : random[i + 1] % (0xFFFFFFFFu - 300);
+        Buffers ours(room), theirs(room);
+        const bool filled = our_fill(pair, kShift, start, {ours.xs.data() + before, ours.ys.data() + before, n});
+        fill_pbrt(pair, kShift, start, {theirs.xs.data() + before, theirs.ys.data() + before, n});
+        report.compare(filled && ours == theirs, "fill of " + std::to_string(n) + " points from index " + std::to_string(start));
+    }
+}
+
+void add_ours(Race& race, const char* name, const Pair& pair, Buffers& buffers) {
+    race.add(name, [&] {
+        our_fill(pair, kShift, 0, buffers.target());
+        keep(buffers.xs.data());
+    });
+}
+
+template <class Fill>
+void add_theirs(Race& race, const char* name, Buffers& buffers, Fill fill) {
+    race.add(name, [&buffers, fill] {
+        fill(buffers.target());
+        keep(buffers.xs.data());
+    });
+}
+
+void add_libraries(Race& race, Buffers& buffers, std::vector<double>& doubles) {
+    if (kBoostHere) add_theirs(race, "boost sobol", buffers, fill_boost_sobol);
+    if (kBoostHere) add_theirs(race, "boost niederreiter", buffers, fill_boost_niederreiter);
+    if (!kGslHere) return;
+    race.add("gsl", [&doubles] {
+        fill_gsl_sobol(doubles.data(), kPoints);
+        keep(doubles.data());
+    });
+}
+
+void report_libraries(Report& report, const Race& race) {
+    const Row sobol{"fill_any_vs_boost_sobol", "fill, any pair / Boost sobol", "Mpoints/s", 2.5};
+    const Row niederreiter{"fill_any_vs_boost_niederreiter_base2", "fill, any pair / Boost niederreiter_base2", "Mpoints/s"};
+    const Row gsl{"fill_any_vs_gsl_sobol", "fill, any pair / GSL sobol", "Mpoints/s", 6};
+    if (kBoostHere) {
+        report.row(sobol, kMillions, race, "any", "boost sobol");
+        report.row(niederreiter, kMillions, race, "any", "boost niederreiter");
+    } else {
+        report.missing(sobol, "no Boost: libboost-dev could not be installed");
+        report.missing(niederreiter, "no Boost: libboost-dev could not be installed");
+    }
+    if (kGslHere)
+        report.row(gsl, kMillions, race, "any", "gsl");
+    else
+        report.missing(gsl, "no GSL: libgsl-dev could not be installed");
+}
+
+}  // namespace
+
+void compare_fills(Report& report) {
+    const Pair standard = standard_pair(), any = scrambled_pair(1);
+    Pair given{};
+    const bool made = vektrid_standard_pair(given.words.data(), 64) == 0;
+    report.compare(made && given.words == standard.words, "the standard pair");
+    compare_whole(report, any, "any pair", 0);
+    compare_whole(report, any, "any pair", 0u - static_cast<uint32_t>(kPoints));
+    compare_whole(report, standard, "standard pair", 0);
+    compare_listing19(report, standard);
+    compare_short(report, any);
+    compare_short(report, standard);
+}
+
+void measure_fills(Report& report) {
+    const Pair standard = standard_pair(), any = scrambled_pair(1);
+    Buffers buffers(kPoints);
+    std::vector<double> doubles(2 * kPoints);
+    Race race;
+    add_ours(race, "any", any, buffers);
+    add_ours(race, "standard", standard, buffers);
+    add_theirs(race, "prefix", buffers, [&](Target to) { fill_prefix(any, kShift, 0, to); });
+    add_theirs(race, "groups", buffers, [&](Target to) { fill_groups(any, kShift, 0, to); });
+    add_theirs(race, "listing 19", buffers, [](Target to) { fill_listing19(kShift, 0, to); });
+    add_theirs(race, "stores", buffers, [](Target to) { store_only(0, to); });
+    add_libraries(race, buffers, doubles);
+    race.run(10, 20);
+    Race slow;  // apart, so that the others run more often
+    add_ours(slow, "any", any, buffers);
+    add_theirs(slow, "pbrt", buffers, [&](Target to) { fill_pbrt(any, kShift, 0, to); });
+    slow.run(2, 5);
+
+    const Row listing19{"fill_standard_vs_cpp_listing19", "fill, standard pair / C++ listing 19", "Mpoints/s", 1.2};
+    report.row({"fill_any_vs_cpp_prefix", "fill, any pair / C++ prefix table", "Mpoints/s", 0.95}, kMillions, race, "any", "prefix");
+    report.row({"fill_any_vs_cpp_groups", "fill, any pair / C++ groups of 64", "Mpoints/s"}, kMillions, race, "any", "groups");
+    report.row({"fill_any_vs_pbrt_loop", "fill, any pair / PBRT loop", "Mpoints/s"}, kMillions, slow, "any", "pbrt");
+    report.row({"fill_any_vs_stores", "fill, any pair / plain stores", "Mpoints/s", 0.4}, kMillions, race, "any", "stores");
+    report_libraries(report, race);
+    report.row(listing19, kMillions, race, "standard", "listing 19");
+}

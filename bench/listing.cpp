@@ -1,0 +1,107 @@
+// The listing of a region file with 2,047 records of 4,096 visits: 8,384,512 lines, a page of 64 KiB at a time, to /dev/null.
+#include <fcntl.h>
+#include <unistd.h>
+
+#include <algorithm>
+#include <cstdlib>
+#include <cstring>
+#include <string>
+#include <vector>
+
+#include "../include/vektrid.h"
+#include "listing_peers.hpp"
+#include "report.hpp"
+
+namespace {
+
+// Ours: the sink gets each page.
+template <class Sink>
+void our_listing(const File& file, uint8_t* page, Sink sink) {
+    vektrid_cursor cursor;
+    vektrid_listing_open(file.data(), file.size(), &cursor);
+    while (const size_t n = vektrid_listing_page(file.data(), file.size(), &cursor, page, kPage)) sink(page, n);
+}
+
+// Holds a stream of bytes against our listing, wherever either of them ends its pages.
+class Against {
+public:
+    explicit Against(const File& file) : file_(file) { vektrid_listing_open(file.data(), file.size(), &cursor_); }
+    void feed(const uint8_t* bytes, size_t n) {
+        while (n > 0 && equal_) {
+            if (at_ == have_ && !refill()) equal_ = false;
+            const size_t part = std::min(n, have_ - at_);
+            equal_ = equal_ && std::memcmp(bytes, &page_[at_], part) == 0;
+            bytes += part, n -= part, at_ += part;
+        }
+    }
+    bool ended_equal() { return equal_ && at_ == have_ && !refill(); }
+
+private:
+    bool refill() {
+        have_ = vektrid_listing_page(file_.data(), file_.size(), &cursor_, page_.data(), page_.size());
+        at_ = 0;
+        return have_ > 0;
+    }
+    const File& file_;
+    vektrid_cursor cursor_;
+    std::vector<uint8_t> page_ = std::vector<uint8_t>(kPage);
+    size_t at_ = 0, have_ = 0;
+    bool equal_ = true;
+};
+
+template <class Writer>
+void compare_one(Report& report, const File& file, const char* name) {
+    std::vector<uint8_t> page(kPage);
+    Against ours(file);
+    cpp_listing<Writer>(file, page.data(), [&](const uint8_t* bytes, size_t n) { ours.feed(bytes, n); });
+    report.compare(ours.ended_equal(), std::string("listing against C++ ") + name);
+}
+
+// Where the pages go while time is taken.
+struct Null {
+    int file;
+    void operator()(const uint8_t* bytes, size_t n) const {
+        keep(bytes);
+        if (write(file, bytes, n) != static_cast<ssize_t>(n)) std::abort();
+    }
+};
+
+void add_ours(Race& race, const File& file, std::vector<uint8_t>& page, Null null) {
+    race.add("ours", [&file, &page, null] { our_listing(file, page.data(), null); });
+}
+
+template <class Writer>
+void add_theirs(Race& race, const char* name, const File& file, std::vector<uint8_t>& page, Null null) {
+    race.add(name, [&file, &page, null] { cpp_listing<Writer>(file, page.data(), null); });
+}
+
+}  // namespace
+
+void compare_listings(Report& report) {
+    const File file = region_file();
+    report.compare(vektrid_judge(file.data(), file.size()) == 0, "the region file is judged good");
+    compare_one<ToChars>(report, file, "to_chars");
+    compare_one<ToCharsOnce>(report, file, "to_chars, record number once");
+    compare_one<Printf>(report, file, "snprintf");
+}
+
+void measure_listings(Report& report) {
+    const File file = region_file();
+    std::vector<uint8_t> page(kPage);
+    const Null null{open("/dev/null", O_WRONLY)};
+    Race race, slow;  // apart, so that the others run more often
+    add_ours(race, file, page, null);
+    add_ours(slow, file, page, null);
+    add_theirs<ToChars>(race, "to_chars", file, page, null);
+    add_theirs<ToCharsOnce>(race, "to_chars once", file, page, null);
+    add_theirs<Printf>(slow, "printf", file, page, null);
+    race.run(8, 5);
+    slow.run(6, 3);
+    close(null.file);
+
+    const double lines = kRecords * kVisits / 1e6;
+    const Row once{"listing_vs_cpp_to_chars_once", "listing / C++ to_chars, record number once", "Mlines/s"};
+    report.row({"listing_vs_cpp_to_chars", "listing / C++ to_chars", "Mlines/s", 0.9}, lines, race, "ours", "to_chars");
+    report.row(once, lines, race, "ours", "to_chars once");
+    report.row({"listing_vs_printf", "listing / C++ snprintf", "Mlines/s", 3}, lines, slow, "ours", "printf");
+}

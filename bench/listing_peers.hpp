@@ -1,0 +1,108 @@
+// Listings in plain C++, and the region file that they and we list.
+#pragma once
+
+#include <charconv>
+#include <cstdio>
+#include <cstring>
+#include <random>
+#include <string>
+#include <vector>
+
+#include "peers.hpp"
+
+constexpr size_t kPage = 65536, kLongestLine = 46;
+constexpr uint32_t kRecords = 2047, kVisits = 4096;
+inline const std::string kHeader = "record visit x y\n";
+
+struct Record {
+    uint32_t next, left, top, width, height, shift_x, shift_y, count;
+};
+
+using File = std::vector<uint8_t>;
+
+// The largest file that 01 allows: all records in a chain, regions and scrambles at random.
+inline File region_file() {
+    File file(32 * (kRecords + 1));
+    std::mt19937 random(7);
+    const auto below = [&](uint32_t n) { return static_cast<uint32_t>(random()) % n; };
+    const uint32_t header[2] = {1, 32};
+    std::memcpy(file.data(), header, sizeof header);
+    for (uint32_t n = 1; n <= kRecords; ++n) {
+        const uint32_t left = below(2000001) - 1000000, top = below(2000001) - 1000000;
+        const uint32_t width = 1 + below(1000000), height = 1 + below(1000000), x = below(0xFFFFFFFF), y = below(0xFFFFFFFF);
+        const Record record{n < kRecords ? n + 1 : 0, left, top, width, height, x, y, kVisits};
+        std::memcpy(&file[32 * n], &record, sizeof record);
+    }
+    return file;
+}
+
+inline int32_t position(uint32_t edge, uint32_t extent, uint32_t word) {
+    return static_cast<int32_t>(edge) + static_cast<int32_t>((uint64_t{word} * extent) >> 32);
+}
+
+// A listing, points by listing 19: a Writer starts a record and writes a line. The file is taken as good, which is in favour of the peer.
+template <class Writer, class Sink>
+void cpp_listing(const File& file, uint8_t* page, Sink sink) {
+    char* const begin = reinterpret_cast<char*>(page);
+    char* const end = begin + kPage;
+    char* at = begin + kHeader.copy(begin, kHeader.size());
+    uint32_t number;
+    std::memcpy(&number, file.data(), sizeof number);
+    while (number != 0) {
+        Record record;
+        std::memcpy(&record, &file[32 * number], sizeof record);
+        const Writer writer(number);
+        for (uint32_t i = 0; i < record.count; ++i) {
+            if (static_cast<size_t>(end - at) < kLongestLine) {
+                sink(page, static_cast<size_t>(at - begin));
+                at = begin;
+            }
+            const uint32_t x = reversed(i);
+            at = writer.line(at, end, i, position(record.left, record.width, x ^ record.shift_x),
+                             position(record.top, record.height, pascal(x) ^ record.shift_y));
+        }
+        number = record.next;
+    }
+    sink(page, static_cast<size_t>(at - begin));
+}
+
+template <class Number>
+inline char* put(char* at, char* end, Number value, char after) {
+    at = std::to_chars(at, end, value).ptr;
+    *at = after;
+    return at + 1;
+}
+
+// std::to_chars for every field.
+struct ToChars {
+    uint32_t record;
+    explicit ToChars(uint32_t number) : record(number) {}
+    char* line(char* at, char* end, uint32_t i, int32_t x, int32_t y) const {
+        at = put(at, end, record, ' ');
+        at = put(at, end, i, ' ');
+        at = put(at, end, x, ' ');
+        return put(at, end, y, '\n');
+    }
+};
+
+// The record's number turned into text once, and copied.
+struct ToCharsOnce {
+    char text[16] = {};
+    size_t length;
+    explicit ToCharsOnce(uint32_t number) { length = static_cast<size_t>(put(text, text + sizeof text, number, ' ') - text); }
+    char* line(char* at, char* end, uint32_t i, int32_t x, int32_t y) const {
+        std::memcpy(at, text, sizeof text);
+        at = put(at + length, end, i, ' ');
+        at = put(at, end, x, ' ');
+        return put(at, end, y, '\n');
+    }
+};
+
+// snprintf into the page, which is faster than fprintf.
+struct Printf {
+    uint32_t record;
+    explicit Printf(uint32_t number) : record(number) {}
+    char* line(char* at, char* end, uint32_t i, int32_t x, int32_t y) const {
+        return at + std::snprintf(at, static_cast<size_t>(end - at), "%u %u %d %d\n", record, i, x, y);
+    }
+};
