@@ -42,8 +42,8 @@ pub(crate) fn field(file: &[u8], n: u32, k: u32) -> u32
         + byte_at(file, at + 3) * 16777216
 }
 
-// Two's complement.
-fn signed(word: u32) -> i32
+// A field in two's complement, as a number.
+pub fn signed(word: u32) -> i32
     ensures { λ r. ⌜ r ≡ toZ w32 word ⌝ }
 {
     if word < 2147483648 {

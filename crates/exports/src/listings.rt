@@ -1,0 +1,110 @@
+// Listings in pieces, from a cursor of words that the caller keeps.
+use crate::places::place_of;
+use crate::places::words_of;
+use listing::Cursor;
+use listing::Lead;
+ghost use mathlib.Core.Path.{_≡_};
+ghost use lib.ListN.{length, take, drop};
+ghost use Rattle.text.specs.Pieces.{Counts};
+ghost use Rattle.listing.specs.Listing.{listing};
+ghost use Rattle.listing.specs.Cursor.{to-come, Paged};
+ghost use Rattle.exports.specs.Words.{lead-of, cursor-of};
+
+// The words of a cursor.
+type CursorWords = [u32; 13];
+
+fn lead_of(kind: u32, number: u32) -> Lead
+    ensures { λ r. ⌜ r ≡ lead-of kind number ⌝ }
+{
+    if kind == 0 {
+        return Lead::Nothing;
+    }
+    if kind == 1 {
+        return Lead::Header;
+    }
+    Lead::Refused(number)
+}
+
+fn cursor_of(words: CursorWords) -> Cursor
+    ensures { λ r. ⌜ r ≡ cursor-of words ⌝ }
+{
+    Cursor {
+        lead: lead_of(words[0], words[1]),
+        place: place_of([
+            words[2],
+            words[3],
+            words[4],
+            words[5],
+            words[6],
+            words[7],
+            words[8],
+            words[9],
+            words[10],
+            words[11],
+            words[12],
+        ]),
+    }
+}
+
+fn kind_of(lead: Lead) -> u32 {
+    match lead {
+        Lead::Nothing => 0,
+        Lead::Header => 1,
+        Lead::Refused(_) => 2,
+    }
+}
+
+fn number_of_lead(lead: Lead) -> u32 {
+    match lead {
+        Lead::Nothing => 0,
+        Lead::Header => 0,
+        Lead::Refused(number) => number,
+    }
+}
+
+fn words_of_cursor(cursor: Cursor) -> CursorWords
+    ensures { λ r. ⌜ cursor-of r ≡ cursor ⌝ }
+{
+    let place = words_of(cursor.place);
+    let lead = cursor.lead;
+    [
+        kind_of(lead),
+        number_of_lead(lead),
+        place[0],
+        place[1],
+        place[2],
+        place[3],
+        place[4],
+        place[5],
+        place[6],
+        place[7],
+        place[8],
+        place[9],
+        place[10],
+    ]
+}
+
+// The start of a file's listing.
+#[no_mangle]
+pub extern "C" fn vektrid_listing_open(file: &[u8], cursor: &mut [u32; 13])
+    ensures { λ _. ⌜ to-come (now (file .entry)) (cursor-of (now (cursor .exit))) ≡ listing (now (file .entry)) ⌝ }
+{
+    let start = Cursor::open(file);
+    let words = words_of_cursor(start);
+    *cursor = words;
+}
+
+// The next piece, and the cursor past it.
+#[no_mangle]
+pub extern "C" fn vektrid_listing_page(file: &[u8], cursor: &mut [u32; 13], out: &mut [u8]) -> usize
+    ensures counts { λ r. ⌜ Counts r (now (out .exit)) ⌝ }
+    ensures piece { λ r. ⌜ Paged (now (file .entry)) (cursor-of (now (cursor .entry))) (cursor-of (now (cursor .exit))) (take r (now (out .exit))) (length (now (out .exit))) ⌝ }
+    ensures rest { λ r. ⌜ drop r (now (out .exit)) ≡ drop r (now (out .entry)) ⌝ }
+{
+    let start = cursor_of(*cursor);
+    let page = start.page(file, out);
+    let next = page.next;
+    let words = words_of_cursor(next);
+    *cursor = words;
+    page.len
+}

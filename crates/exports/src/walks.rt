@@ -1,0 +1,119 @@
+// Walks: the caller keeps the next index and the visits left.
+use plan::Opened;
+use plan::Plan;
+use plan::Shift;
+use plan::Step;
+use plan::Walk;
+use refusal::Judgement;
+use unit::SinglesStep;
+ghost use mathlib.Core.Path.{_≡_};
+ghost use Rattle.plan.specs.Walk.{open-outcome};
+ghost use Rattle.exports.specs.Answers.{answer, handed, given, seen};
+ghost use Rattle.exports.specs.Calls.{step-outcome, step-singles-outcome};
+
+// A walk over count visits from start on.
+#[no_mangle]
+pub extern "C" fn vektrid_walk_open(start: u32, count: u64, next: &mut u32, left: &mut u64) -> u32
+    ensures answer { λ r. ⌜ r ≡ answer (open-outcome start count) ⌝ }
+    ensures next { λ _. ⌜ now (next .exit) ≡ handed (open-outcome start count) (λ w. w .next) (now (next .entry)) ⌝ }
+    ensures left { λ _. ⌜ now (left .exit) ≡ handed (open-outcome start count) (λ w. w .left) (now (left .entry)) ⌝ }
+{
+    let opened = Walk::open(start, count);
+    match opened {
+        Opened::Refused(why) => why.number(),
+        Opened::Open(walk) => {
+            *next = walk.next;
+            *left = walk.left;
+            0
+        }
+    }
+}
+
+// A step: the visit, if one was left, and the walk after it.
+#[no_mangle]
+pub extern "C" fn vektrid_walk_step(
+    words: &[u32],
+    sx: u32,
+    sy: u32,
+    next: &mut u32,
+    left: &mut u64,
+    given: &mut u32,
+    index: &mut u32,
+    x: &mut u32,
+    y: &mut u32,
+) -> u32
+    ensures answer { λ r. ⌜ r ≡ answer (step-outcome (now (words .entry)) sx sy (now (next .entry)) (now (left .entry))) ⌝ }
+    ensures next { λ _. ⌜ now (next .exit) ≡ handed (step-outcome (now (words .entry)) sx sy (now (next .entry)) (now (left .entry))) (λ s. s .walk .next) (now (next .entry)) ⌝ }
+    ensures left { λ _. ⌜ now (left .exit) ≡ handed (step-outcome (now (words .entry)) sx sy (now (next .entry)) (now (left .entry))) (λ s. s .walk .left) (now (left .entry)) ⌝ }
+    ensures given { λ _. ⌜ now (given .exit) ≡ handed (step-outcome (now (words .entry)) sx sy (now (next .entry)) (now (left .entry))) (λ s. given (s .answer)) (now (given .entry)) ⌝ }
+    ensures index { λ _. ⌜ now (index .exit) ≡ handed (step-outcome (now (words .entry)) sx sy (now (next .entry)) (now (left .entry))) (λ s. seen (s .answer) (λ v. v .index) (now (index .entry))) (now (index .entry)) ⌝ }
+    ensures x { λ _. ⌜ now (x .exit) ≡ handed (step-outcome (now (words .entry)) sx sy (now (next .entry)) (now (left .entry))) (λ s. seen (s .answer) (λ v. v .x) (now (x .entry))) (now (x .entry)) ⌝ }
+    ensures y { λ _. ⌜ now (y .exit) ≡ handed (step-outcome (now (words .entry)) sx sy (now (next .entry)) (now (left .entry))) (λ s. seen (s .answer) (λ v. v .y) (now (y .entry))) (now (y .entry)) ⌝ }
+{
+    let loaded = Plan::load(words);
+    let answer = loaded.answer;
+    if let Judgement::Refused(why) = answer {
+        return why.number();
+    }
+    let walk = Walk { next: *next, left: *left };
+    let plan = loaded.plan;
+    let stepped = walk.step(plan, Shift { x: sx, y: sy });
+    let after = stepped.walk;
+    *next = after.next;
+    *left = after.left;
+    let step = stepped.step;
+    let Step::Visited(visit) = step else {
+        *given = 0;
+        return 0;
+    };
+    *given = 1;
+    *index = visit.index;
+    *x = visit.x;
+    *y = visit.y;
+    0
+}
+
+// The same with the point as two singles.
+#[no_mangle]
+pub extern "C" fn vektrid_walk_step_singles(
+    words: &[u32],
+    sx: u32,
+    sy: u32,
+    next: &mut u32,
+    left: &mut u64,
+    given: &mut u32,
+    index: &mut u32,
+    x: &mut f32,
+    y: &mut f32,
+) -> u32
+    ensures answer { λ r. ⌜ r ≡ answer (step-singles-outcome (now (words .entry)) sx sy (now (next .entry)) (now (left .entry))) ⌝ }
+    ensures next { λ _. ⌜ now (next .exit) ≡ handed (step-singles-outcome (now (words .entry)) sx sy (now (next .entry)) (now (left .entry))) (λ s. s .walk .next) (now (next .entry)) ⌝ }
+    ensures left { λ _. ⌜ now (left .exit) ≡ handed (step-singles-outcome (now (words .entry)) sx sy (now (next .entry)) (now (left .entry))) (λ s. s .walk .left) (now (left .entry)) ⌝ }
+    ensures given { λ _. ⌜ now (given .exit) ≡ handed (step-singles-outcome (now (words .entry)) sx sy (now (next .entry)) (now (left .entry))) (λ s. given (s .answer)) (now (given .entry)) ⌝ }
+    ensures index { λ _. ⌜ now (index .exit) ≡ handed (step-singles-outcome (now (words .entry)) sx sy (now (next .entry)) (now (left .entry))) (λ s. seen (s .answer) (λ v. v .index) (now (index .entry))) (now (index .entry)) ⌝ }
+    ensures x { λ _. ⌜ now (x .exit) ≡ handed (step-singles-outcome (now (words .entry)) sx sy (now (next .entry)) (now (left .entry))) (λ s. seen (s .answer) (λ v. v .at .x) (now (x .entry))) (now (x .entry)) ⌝ }
+    ensures y { λ _. ⌜ now (y .exit) ≡ handed (step-singles-outcome (now (words .entry)) sx sy (now (next .entry)) (now (left .entry))) (λ s. seen (s .answer) (λ v. v .at .y) (now (y .entry))) (now (y .entry)) ⌝ }
+{
+    let loaded = Plan::load(words);
+    let answer = loaded.answer;
+    if let Judgement::Refused(why) = answer {
+        return why.number();
+    }
+    let walk = Walk { next: *next, left: *left };
+    let plan = loaded.plan;
+    let stepped = unit::step_singles(walk, plan, Shift { x: sx, y: sy });
+    let after = stepped.walk;
+    *next = after.next;
+    *left = after.left;
+    let step = stepped.step;
+    let SinglesStep::Visited(visit) = step else {
+        *given = 0;
+        return 0;
+    };
+    *given = 1;
+    *index = visit.index;
+    let at = visit.at;
+    *x = at.x;
+    *y = at.y;
+    0
+}
