@@ -2,6 +2,7 @@
 use mathlib.Core.List.{List, _++_}
 use Prim.Native.Nat.{ℕ}
 use lib.IntN.{ℤ}
+use lib.Ieee.{Float}
 use Rattle.net.specs.Sequence.{Sequence, point}
 use Rattle.net.specs.Run.{Visit, visit}
 use Rattle.net.specs.Walk.{Stepped, step}
@@ -42,6 +43,10 @@ pair-filled words sx sy start xs ys =
 -- a step of the walk with the next index n and l visits left
 abbrev pub step-outcome : List ℕ → (sx sy n l : ℕ) → Outcome (Stepped Visit)
 step-outcome words sx sy n l = of-pair words (step (visit (points words sx sy)) last-index (record { next = n; left = l }))
+
+-- two singles, and a step that gives them
+abbrev pub singles : Float → Float → Singles
+singles x y = record { x = x; y = y }
 
 abbrev pub step-singles-outcome : List ℕ → (sx sy n l : ℕ) → Outcome (Stepped SinglesVisit)
 step-singles-outcome words sx sy n l =

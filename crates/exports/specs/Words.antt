@@ -4,6 +4,7 @@ use mathlib.Core.Bool.{cond}
 use mathlib.Core.List.{List, [], _∷_}
 use Prim.Native.Nat.{ℕ, _+_}
 use lib.Dec.{eqb}
+use lib.IntN.{ℤ}
 use lib.ListN.{getD, drop}
 use mir.Syntax.{w32}
 use mir.Val.{toZ}
@@ -48,15 +49,23 @@ abbrev pub Opens : List ℕ → Outcome (List Visit) → List ℕ → List ℕ �
 Opens file (accepted vs) old new = coming file new ≡ vs
 Opens file (refused n l) old new = new ≡ old
 
--- a step: whether there is a visit, a part of it in a lent word, and the visits to come after it
-abbrev pub some : List Visit → ℕ
-some [] = 0
-some (v ∷ vs) = 1
-
-abbrev pub first-of : {B : Type 0} → List Visit → (Visit → B) → B → B
-first-of [] part old = old
-first-of (v ∷ vs) part old = part v
-
+-- the visits to come after a step
 abbrev pub others : List Visit → List Visit
 others [] = []
 others (v ∷ vs) = vs
+
+-- the words lent to it: whether there was a visit, the number of its record, its index and its position
+pub record VisitWords : Type 0 where
+  pub given : ℕ
+  pub number : ℕ
+  pub index : ℕ
+  pub x : ℤ
+  pub y : ℤ
+
+abbrev pub visit-words : (given number index : ℕ) (x y : ℤ) → VisitWords
+visit-words given number index x y = record { given = given; number = number; index = index; x = x; y = y }
+
+-- what they hold after it: given 1 and the first visit to come, or given 0 and the others as they were
+abbrev pub shown : List Visit → VisitWords → VisitWords
+shown [] old = visit-words 0 (old .number) (old .index) (old .x) (old .y)
+shown (v ∷ vs) old = visit-words 1 (v .number) (v .index) (v .x) (v .y)

@@ -24,7 +24,9 @@ pub extern "C" fn vektrid_query(
     j: &mut u32,
 ) -> u32
     ensures answer { λ r. ⌜ r ≡ answer (pair-query-outcome (now (words .entry)) sx sy level m a column row block) ⌝ }
-    ensures index { λ _. ⌜ now (index .exit) ≡ handed (pair-query-outcome (now (words .entry)) sx sy level m a column row block) (λ i. i) (now (index .entry)) ⌝ }
+    ensures index { λ _. ⌜
+        now (index .exit)
+        ≡ handed (pair-query-outcome (now (words .entry)) sx sy level m a column row block) (λ i. i) (now (index .entry)) ⌝ }
     ensures j { λ _. ⌜ now (j .exit) ≡ value (pair-query-outcome (now (words .entry)) sx sy level m a column row block) 2 (now (j .entry)) ⌝ }
 {
     let loaded = Plan::load(words);
@@ -33,14 +35,27 @@ pub extern "C" fn vektrid_query(
         return why.number();
     }
     let plan = loaded.plan;
-    let located = stratify::query(plan, Shift { x: sx, y: sy }, level, m, a, column, row, block);
+    let located = stratify::query(
+        plan,
+        Shift { x: sx, y: sy },
+        level,
+        m,
+        a,
+        column,
+        row,
+        block,
+    );
     match located {
         Located::Found(found) => {
             *index = found;
             0
         }
         Located::Refused(why) => {
-            if let Refusal::NotNet { m: _, a: _, j: least } = why {
+            if let Refusal::NotNet {
+                m: _,
+                a: _,
+                j: least,
+            } = why {
                 *j = least;
             }
             why.number()

@@ -9,7 +9,14 @@ ghost use Rattle.exports.specs.Calls.{pair-fill-outcome, pair-filled};
 
 // The points of the indexes from start on, as many as the buffers have room for.
 #[no_mangle]
-pub extern "C" fn vektrid_fill(words: &[u32], sx: u32, sy: u32, start: u32, xs: &mut [u32], ys: &mut [u32]) -> u32
+pub extern "C" fn vektrid_fill(
+    words: &[u32],
+    sx: u32,
+    sy: u32,
+    start: u32,
+    xs: &mut [u32],
+    ys: &mut [u32],
+) -> u32
     ensures answer { λ r. ⌜ r ≡ answer (pair-fill-outcome (now (words .entry)) start (now (xs .entry)) (now (ys .entry))) ⌝ }
     ensures xs { λ _. ⌜ now (xs .exit) ≡ pair-filled (now (words .entry)) sx sy start (now (xs .entry)) (now (ys .entry)) .x ⌝ }
     ensures ys { λ _. ⌜ now (ys .exit) ≡ pair-filled (now (words .entry)) sx sy start (now (xs .entry)) (now (ys .entry)) .y ⌝ }

@@ -98,7 +98,9 @@ pub extern "C" fn vektrid_listing_open(file: &[u8], cursor: &mut [u32; 13])
 #[no_mangle]
 pub extern "C" fn vektrid_listing_page(file: &[u8], cursor: &mut [u32; 13], out: &mut [u8]) -> usize
     ensures counts { λ r. ⌜ Counts r (now (out .exit)) ⌝ }
-    ensures piece { λ r. ⌜ Paged (now (file .entry)) (cursor-of (now (cursor .entry))) (cursor-of (now (cursor .exit))) (take r (now (out .exit))) (length (now (out .exit))) ⌝ }
+    ensures piece { λ r. ⌜
+        Paged (now (file .entry)) (cursor-of (now (cursor .entry))) (cursor-of (now (cursor .exit)))
+        (take r (now (out .exit))) (length (now (out .exit))) ⌝ }
     ensures rest { λ r. ⌜ drop r (now (out .exit)) ≡ drop r (now (out .entry)) ⌝ }
 {
     let start = cursor_of(*cursor);

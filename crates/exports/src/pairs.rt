@@ -42,7 +42,13 @@ pub extern "C" fn vektrid_standard_pair(words: &mut [u32]) -> u32
 
 // Whether a pair passes a level; 3 gives the first bad shape and its least index.
 #[no_mangle]
-pub extern "C" fn vektrid_check(words: &[u32], level: u32, m: &mut u32, a: &mut u32, j: &mut u32) -> u32
+pub extern "C" fn vektrid_check(
+    words: &[u32],
+    level: u32,
+    m: &mut u32,
+    a: &mut u32,
+    j: &mut u32,
+) -> u32
     ensures answer { λ r. ⌜ r ≡ answer (check-outcome (now (words .entry)) level) ⌝ }
     ensures m { λ _. ⌜ now (m .exit) ≡ value (check-outcome (now (words .entry)) level) 0 (now (m .entry)) ⌝ }
     ensures a { λ _. ⌜ now (a .exit) ≡ value (check-outcome (now (words .entry)) level) 1 (now (a .entry)) ⌝ }
@@ -52,7 +58,11 @@ pub extern "C" fn vektrid_check(words: &[u32], level: u32, m: &mut u32, a: &mut 
     let Judgement::Refused(why) = answer else {
         return 0;
     };
-    if let Refusal::NotNet { m: bad_m, a: bad_a, j: least } = why {
+    if let Refusal::NotNet {
+        m: bad_m,
+        a: bad_a,
+        j: least,
+    } = why {
         *m = bad_m;
         *a = bad_a;
         *j = least;

@@ -13,7 +13,7 @@ ghost use mir.Val.{toZ};
 ghost use Rattle.region_file.specs.Judge.{judge-outcome, most-visits};
 ghost use Rattle.visits.specs.Visits.{visits-outcome};
 ghost use Rattle.exports.specs.Answers.{answer};
-ghost use Rattle.exports.specs.Words.{place-of, coming, Opens, some, first-of, others};
+ghost use Rattle.exports.specs.Words.{place-of, coming, Opens, others, visit-words, shown};
 
 // The words of a place.
 pub(crate) type PlaceWords = [u32; 11];
@@ -112,11 +112,10 @@ pub extern "C" fn vektrid_visits_step(
     py: &mut i32,
 )
     ensures place { λ _. ⌜ coming (now (file .entry)) (now (place .exit)) ≡ others (coming (now (file .entry)) (now (place .entry))) ⌝ }
-    ensures given { λ _. ⌜ now (given .exit) ≡ some (coming (now (file .entry)) (now (place .entry))) ⌝ }
-    ensures number { λ _. ⌜ now (number .exit) ≡ first-of (coming (now (file .entry)) (now (place .entry))) (λ v. v .number) (now (number .entry)) ⌝ }
-    ensures index { λ _. ⌜ now (index .exit) ≡ first-of (coming (now (file .entry)) (now (place .entry))) (λ v. v .index) (now (index .entry)) ⌝ }
-    ensures x { λ _. ⌜ now (px .exit) ≡ first-of (coming (now (file .entry)) (now (place .entry))) (λ v. v .x) (now (px .entry)) ⌝ }
-    ensures y { λ _. ⌜ now (py .exit) ≡ first-of (coming (now (file .entry)) (now (place .entry))) (λ v. v .y) (now (py .entry)) ⌝ }
+    ensures words { λ _. ⌜
+        visit-words (now (given .exit)) (now (number .exit)) (now (index .exit)) (now (px .exit)) (now (py .exit))
+        ≡ shown (coming (now (file .entry)) (now (place .entry)))
+        (visit-words (now (given .entry)) (now (number .entry)) (now (index .entry)) (now (px .entry)) (now (py .entry))) ⌝ }
 {
     let start = place_of(*place);
     let stepped = start.step(file);

@@ -10,7 +10,14 @@ ghost use Rattle.exports.specs.Calls.{point-outcome, singles-outcome};
 
 // The point of an index, for any pair.
 #[no_mangle]
-pub extern "C" fn vektrid_point(words: &[u32], sx: u32, sy: u32, index: u32, x: &mut u32, y: &mut u32) -> u32
+pub extern "C" fn vektrid_point(
+    words: &[u32],
+    sx: u32,
+    sy: u32,
+    index: u32,
+    x: &mut u32,
+    y: &mut u32,
+) -> u32
     ensures answer { λ r. ⌜ r ≡ answer (point-outcome (now (words .entry)) sx sy index) ⌝ }
     ensures x { λ _. ⌜ now (x .exit) ≡ handed (point-outcome (now (words .entry)) sx sy index) (λ p. p .0) (now (x .entry)) ⌝ }
     ensures y { λ _. ⌜ now (y .exit) ≡ handed (point-outcome (now (words .entry)) sx sy index) (λ p. p .1) (now (y .entry)) ⌝ }
@@ -40,7 +47,14 @@ pub extern "C" fn vektrid_standard_point(sx: u32, sy: u32, index: u32, x: &mut u
 
 // The point as two singles, for any pair.
 #[no_mangle]
-pub extern "C" fn vektrid_point_singles(words: &[u32], sx: u32, sy: u32, index: u32, x: &mut f32, y: &mut f32) -> u32
+pub extern "C" fn vektrid_point_singles(
+    words: &[u32],
+    sx: u32,
+    sy: u32,
+    index: u32,
+    x: &mut f32,
+    y: &mut f32,
+) -> u32
     ensures answer { λ r. ⌜ r ≡ answer (singles-outcome (now (words .entry)) sx sy index) ⌝ }
     ensures x { λ _. ⌜ now (x .exit) ≡ handed (singles-outcome (now (words .entry)) sx sy index) (λ p. p .x) (now (x .entry)) ⌝ }
     ensures y { λ _. ⌜ now (y .exit) ≡ handed (singles-outcome (now (words .entry)) sx sy index) (λ p. p .y) (now (y .entry)) ⌝ }

@@ -7,9 +7,10 @@ use plan::Walk;
 use refusal::Judgement;
 use unit::SinglesStep;
 ghost use mathlib.Core.Path.{_≡_};
+ghost use Prim.Native.Nat.{ℕ};
 ghost use Rattle.plan.specs.Walk.{open-outcome};
-ghost use Rattle.exports.specs.Answers.{answer, handed, given, seen};
-ghost use Rattle.exports.specs.Calls.{step-outcome, step-singles-outcome};
+ghost use Rattle.exports.specs.Answers.{answer, handed, step-words, told};
+ghost use Rattle.exports.specs.Calls.{step-outcome, singles, step-singles-outcome};
 
 // A walk over count visits from start on.
 #[no_mangle]
@@ -43,19 +44,20 @@ pub extern "C" fn vektrid_walk_step(
     y: &mut u32,
 ) -> u32
     ensures answer { λ r. ⌜ r ≡ answer (step-outcome (now (words .entry)) sx sy (now (next .entry)) (now (left .entry))) ⌝ }
-    ensures next { λ _. ⌜ now (next .exit) ≡ handed (step-outcome (now (words .entry)) sx sy (now (next .entry)) (now (left .entry))) (λ s. s .walk .next) (now (next .entry)) ⌝ }
-    ensures left { λ _. ⌜ now (left .exit) ≡ handed (step-outcome (now (words .entry)) sx sy (now (next .entry)) (now (left .entry))) (λ s. s .walk .left) (now (left .entry)) ⌝ }
-    ensures given { λ _. ⌜ now (given .exit) ≡ handed (step-outcome (now (words .entry)) sx sy (now (next .entry)) (now (left .entry))) (λ s. given (s .answer)) (now (given .entry)) ⌝ }
-    ensures index { λ _. ⌜ now (index .exit) ≡ handed (step-outcome (now (words .entry)) sx sy (now (next .entry)) (now (left .entry))) (λ s. seen (s .answer) (λ v. v .index) (now (index .entry))) (now (index .entry)) ⌝ }
-    ensures x { λ _. ⌜ now (x .exit) ≡ handed (step-outcome (now (words .entry)) sx sy (now (next .entry)) (now (left .entry))) (λ s. seen (s .answer) (λ v. v .x) (now (x .entry))) (now (x .entry)) ⌝ }
-    ensures y { λ _. ⌜ now (y .exit) ≡ handed (step-outcome (now (words .entry)) sx sy (now (next .entry)) (now (left .entry))) (λ s. seen (s .answer) (λ v. v .y) (now (y .entry))) (now (y .entry)) ⌝ }
+    ensures words { λ _. ⌜
+        step-words {P = ℕ × ℕ} (now (next .exit)) (now (left .exit)) (now (given .exit)) (now (index .exit)) (now (x .exit), now (y .exit))
+        ≡ told (step-outcome (now (words .entry)) sx sy (now (next .entry)) (now (left .entry))) (λ v. v .index) (λ v. (v .x, v .y))
+        (step-words (now (next .entry)) (now (left .entry)) (now (given .entry)) (now (index .entry)) (now (x .entry), now (y .entry))) ⌝ }
 {
     let loaded = Plan::load(words);
     let answer = loaded.answer;
     if let Judgement::Refused(why) = answer {
         return why.number();
     }
-    let walk = Walk { next: *next, left: *left };
+    let walk = Walk {
+        next: *next,
+        left: *left,
+    };
     let plan = loaded.plan;
     let stepped = walk.step(plan, Shift { x: sx, y: sy });
     let after = stepped.walk;
@@ -87,19 +89,20 @@ pub extern "C" fn vektrid_walk_step_singles(
     y: &mut f32,
 ) -> u32
     ensures answer { λ r. ⌜ r ≡ answer (step-singles-outcome (now (words .entry)) sx sy (now (next .entry)) (now (left .entry))) ⌝ }
-    ensures next { λ _. ⌜ now (next .exit) ≡ handed (step-singles-outcome (now (words .entry)) sx sy (now (next .entry)) (now (left .entry))) (λ s. s .walk .next) (now (next .entry)) ⌝ }
-    ensures left { λ _. ⌜ now (left .exit) ≡ handed (step-singles-outcome (now (words .entry)) sx sy (now (next .entry)) (now (left .entry))) (λ s. s .walk .left) (now (left .entry)) ⌝ }
-    ensures given { λ _. ⌜ now (given .exit) ≡ handed (step-singles-outcome (now (words .entry)) sx sy (now (next .entry)) (now (left .entry))) (λ s. given (s .answer)) (now (given .entry)) ⌝ }
-    ensures index { λ _. ⌜ now (index .exit) ≡ handed (step-singles-outcome (now (words .entry)) sx sy (now (next .entry)) (now (left .entry))) (λ s. seen (s .answer) (λ v. v .index) (now (index .entry))) (now (index .entry)) ⌝ }
-    ensures x { λ _. ⌜ now (x .exit) ≡ handed (step-singles-outcome (now (words .entry)) sx sy (now (next .entry)) (now (left .entry))) (λ s. seen (s .answer) (λ v. v .at .x) (now (x .entry))) (now (x .entry)) ⌝ }
-    ensures y { λ _. ⌜ now (y .exit) ≡ handed (step-singles-outcome (now (words .entry)) sx sy (now (next .entry)) (now (left .entry))) (λ s. seen (s .answer) (λ v. v .at .y) (now (y .entry))) (now (y .entry)) ⌝ }
+    ensures words { λ _. ⌜
+        step-words (now (next .exit)) (now (left .exit)) (now (given .exit)) (now (index .exit)) (singles (now (x .exit)) (now (y .exit)))
+        ≡ told (step-singles-outcome (now (words .entry)) sx sy (now (next .entry)) (now (left .entry))) (λ v. v .index) (λ v. v .at)
+        (step-words (now (next .entry)) (now (left .entry)) (now (given .entry)) (now (index .entry)) (singles (now (x .entry)) (now (y .entry)))) ⌝ }
 {
     let loaded = Plan::load(words);
     let answer = loaded.answer;
     if let Judgement::Refused(why) = answer {
         return why.number();
     }
-    let walk = Walk { next: *next, left: *left };
+    let walk = Walk {
+        next: *next,
+        left: *left,
+    };
     let plan = loaded.plan;
     let stepped = unit::step_singles(walk, plan, Shift { x: sx, y: sy });
     let after = stepped.walk;

@@ -12,10 +12,10 @@ use Rattle.exports.proofs.pairs.put.Statement.{statement}
 use Rattle.exports.proofs.pairs.put.Tie as tie
 
 abbrev Inv-loop : tie.InvT-loop
-Inv-loop columns out₀ i₀ out i = (i ≤ 32) × (length out ≡ 32) × (take i out ≡ take i columns)
+Inv-loop out₀ columns i₀ out i = (i ≤ 32) × (length out ≡ 32) × (take i out ≡ take i columns)
 
 abbrev μ-loop : tie.MeasureT-loop
-μ-loop columns out₀ i₀ out i = 32 - i
+μ-loop out₀ columns i₀ out i = 32 - i
 
 loop-holds : tie.Need-loop-holds Inv-loop μ-loop
 loop-holds c = (search needs, c .pre, refl)

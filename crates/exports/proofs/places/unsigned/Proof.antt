@@ -1,49 +1,38 @@
 -- `places::unsigned` meets its contract.
 -- Assumes nothing.
 use mathlib.Core.Path.{sym, ap, _∙_, subst}
-use Prim.Native.Nat.{_^_, _<_, _≤_}
+use Prim.Native.Nat.{_-_, _≤_}
 use native.Mathlib.Omega.{arith}
-use lib.Dec.{T}
 use lib.IntN.{ℤ, natAbs}
-use lib.Signed.{nonNeg}
 use mir.Syntax.{w32}
-use mir.Val.{Fits, SFits}
-use Rattle.text.proofs.Signs.{Negative, negative, lowered, plain}
-use borrow.Author.Needs.{needs}
+use mir.Val.{SFits, toZ}
+use Rattle.exports.proofs.Signs.{castable, Below, below, lowered, Above, above}
 use Rattle.exports.proofs.places.unsigned.Statement.{statement}
 use Rattle.exports.proofs.places.unsigned.Tie as tie
 
-under : (c : tie.Then1) → Negative (c .before .args .z)
-under c = negative (c .before .args .z) (c .before .fits .z) (c .if1 .taken)
-
-small : (c : tie.Then1) → under c .k < 2 ^ 31
-small c = under c .fits .sfits
+under : (c : tie.Then1) → Below (c .before .args .z)
+under c = below (c .before .args .z) (c .before .fits .z) (c .if1 .taken)
 
 sub-result : tie.Need-sub-result
-sub-result c = let n = under c in subst (SFits w32) (sym (n .less)) (n .fits)
+sub-result c = subst (SFits w32) (sym (under c .less)) (record { sfits = under c .fits })
 
 cast-result : tie.Need-cast-result
-cast-result c =
-    let z = c .before .args .z in
-    let n = under c in (
-      subst (λ (y : ℤ). T (nonNeg y)) (sym (lowered z n)) tt,
-      subst (λ (y : ℤ). Fits w32 (natAbs y)) (sym (lowered z n))
-          (record { fits = omega (arith, small c) }),
-    )
+cast-result c = castable (lowered (under c)) (under c .fits)
 
 sub-result-2 : tie.Need-sub-result-2
-sub-result-2 c = subst (λ (y : ℤ). natAbs y ≤ 4294967295) (sym (lowered (c .before .args .z) (under c))) (omega (arith, small c))
+sub-result-2 c = let small = under c .fits in subst (λ (y : ℤ). natAbs y ≤ 4294967295) (sym (lowered (under c))) (omega arith)
 
 returns : tie.Need-returns
-returns c = search needs
+returns c = ap (λ (y : ℤ). toZ w32 (4294967295 - natAbs y)) (lowered (under c)) ∙ under c .same
+
+plain : (c : tie.Else1) → Above (c .before .args .z)
+plain c = above (c .before .args .z) (c .before .fits .z) (c .if1 .left)
 
 cast-result-2 : tie.Need-cast-result-2
-cast-result-2 c =
-    let p = plain (c .before .args .z) (c .before .fits .z) (c .if1 .left) in
-    (subst (λ (y : ℤ). T (nonNeg y)) (sym (p .same)) (p .nonneg), subst (λ (y : ℤ). Fits w32 (natAbs y)) (sym (p .same)) (p .fits))
+cast-result-2 c = castable (plain c .reads) (plain c .fits)
 
 returns-2 : tie.Need-returns-2
-returns-2 c = search needs
+returns-2 c = ap (λ (y : ℤ). toZ w32 (natAbs y)) (plain c .reads) ∙ plain c .same
 
 pub unsigned-spec : {M : Type 1} → statement M
 unsigned-spec = tie.close (tie.spec sub-result cast-result sub-result-2 returns cast-result-2 returns-2)

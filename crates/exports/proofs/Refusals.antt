@@ -1,0 +1,32 @@
+-- The values of a refusal: only 3 has any.
+-- Assumes nothing.
+use mathlib.Core.Path.{_≡_, refl}
+use mathlib.Core.List.{List, [], _∷_}
+use Prim.Native.Nat.{ℕ}
+use types.Run.{OneOf, miss}
+use denote.Enum.Declared.{tagOf}
+use Rattle.refusal.specs.declared.Refusal.{Refusal}
+use Rattle.refusal.specs.declared.Refusal.the-variants as variant
+use Rattle.refusal.proofs.Refusal.{the-type}
+use Rattle.refusal.specs.Refusal.{values}
+
+-- the places of the others among the variants
+abbrev pub others : List ℕ
+others = 0 ∷ 1 ∷ 3 ∷ 4 ∷ 5 ∷ 6 ∷ 7 ∷ 8 ∷ 9 ∷ 10 ∷ 11 ∷ 12 ∷ 13 ∷ 14 ∷ []
+
+pub no-values : (why : Refusal) → OneOf others (tagOf the-type why) → values why ≡ []
+no-values variant.WordCount h = refl
+no-values variant.Level h = refl
+no-values (variant.NotNet m a j) h = absurd (miss others 2 tt h)
+no-values variant.Size h = refl
+no-values variant.Shape h = refl
+no-values variant.Cell h = refl
+no-values variant.Block h = refl
+no-values variant.BufferLengths h = refl
+no-values variant.IndexRange h = refl
+no-values variant.Region h = refl
+no-values variant.FileLength h = refl
+no-values variant.Header h = refl
+no-values variant.MissingRecord h = refl
+no-values variant.ChainReturns h = refl
+no-values variant.VisitCount h = refl
