@@ -3,3 +3,4 @@ pub mod Loading
 pub mod Refusals
 pub mod Signs
 pub mod Halves
+pub mod Words

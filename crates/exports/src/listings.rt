@@ -4,14 +4,16 @@ use crate::places::words_of;
 use listing::Cursor;
 use listing::Lead;
 ghost use mathlib.Core.Path.{_≡_};
-ghost use lib.ListN.{length, take, drop};
+ghost use lib.ListN.{length, take, drop, getD};
 ghost use Rattle.text.specs.Pieces.{Counts};
 ghost use Rattle.listing.specs.Listing.{listing};
 ghost use Rattle.listing.specs.Cursor.{to-come, Paged};
 ghost use Rattle.exports.specs.Words.{lead-of, cursor-of};
 
-// The words of a cursor.
+// The words of a cursor: those of what stands before the lines, and those of a place.
 type CursorWords = [u32; 13];
+
+type LeadWords = [u32; 2];
 
 fn lead_of(kind: u32, number: u32) -> Lead
     ensures { λ r. ⌜ r ≡ lead-of kind number ⌝ }
@@ -46,30 +48,25 @@ fn cursor_of(words: CursorWords) -> Cursor
     }
 }
 
-fn kind_of(lead: Lead) -> u32 {
+fn words_of_lead(lead: Lead) -> LeadWords
+    ensures { λ r. ⌜ lead-of (getD r 0 0) (getD r 1 0) ≡ lead ⌝ }
+{
     match lead {
-        Lead::Nothing => 0,
-        Lead::Header => 1,
-        Lead::Refused(_) => 2,
-    }
-}
-
-fn number_of_lead(lead: Lead) -> u32 {
-    match lead {
-        Lead::Nothing => 0,
-        Lead::Header => 0,
-        Lead::Refused(number) => number,
+        Lead::Nothing => [0, 0],
+        Lead::Header => [1, 0],
+        Lead::Refused(number) => [2, number],
     }
 }
 
 fn words_of_cursor(cursor: Cursor) -> CursorWords
     ensures { λ r. ⌜ cursor-of r ≡ cursor ⌝ }
 {
-    let place = words_of(cursor.place);
     let lead = cursor.lead;
+    let kind = words_of_lead(lead);
+    let place = words_of(cursor.place);
     [
-        kind_of(lead),
-        number_of_lead(lead),
+        kind[0],
+        kind[1],
         place[0],
         place[1],
         place[2],

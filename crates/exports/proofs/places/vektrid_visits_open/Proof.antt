@@ -1,39 +1,40 @@
+-- `places::vektrid_visits_open` meets its contract.
+-- Assumes nothing.
+use mathlib.Core.Path.{refl, sym, ap, _∙_}
+use denote.Ref.{now}
+use Rattle.visits.specs.Place.{to-come, of-opened}
+use Rattle.exports.proofs.Outcomes.{refused-answer, accepted-answer}
+use Rattle.exports.proofs.Words.{opened, unopened}
 use borrow.Author.Needs.{needs}
 use Rattle.exports.proofs.places.vektrid_visits_open.Statement.{statement}
 use Rattle.exports.proofs.places.vektrid_visits_open.Tie as tie
-use Rattle.exports.proofs.places.vektrid_visits_open.Reads as reads
-use Rattle.exports.proofs.places.vektrid_visits_open.Lts as lts
-use Rattle.exports.proofs.places.words_of.Reads as words-of-reads
-use Rattle.refusal.proofs.Refusal.number.Reads as number-reads
-use Rattle.visits.proofs.place.Place.open.Reads as open-reads
 
--- src/places.rt:92:9
 open-requires : tie.Need-open-requires
 open-requires c κs = search needs
 
--- src/places.rt:94:25
 enum-known-opened : tie.Need-enum-known-opened
 enum-known-opened c = search needs
 
--- src/places.rt:94:33
 number-requires : tie.Need-number-requires
 number-requires c κs = search needs
 
--- src/places.rt:95:22
 enum-known-opened-2 : tie.Need-enum-known-opened-2
 enum-known-opened-2 c = search needs
 
--- src/places.rt:96:17
 words-of-requires : tie.Need-words-of-requires
 words-of-requires c κs = search needs
 
--- src/places.rt:87:1
 returns : tie.Need-returns
-returns c = ?
+returns c = let d = c .before .before .before .before in
+    let file = now (d .before .before .args .file) in
+    let e = sym (d .«open» .ensures) ∙ ap (of-opened file) (c .before .before .opened .given .1) in
+    (c .number .ensures ∙ refused-answer e, unopened file _ _ e refl)
 
--- src/places.rt:87:1
 returns-2 : tie.Need-returns-2
-returns-2 c = ?
+returns-2 c = let d = c .before .before .before .before in
+    let file = now (d .before .before .args .file) in
+    let e = sym (d .«open» .ensures) ∙ ap (of-opened file) (c .before .before .opened2 .given .1) in
+    (accepted-answer e, opened file _ _ e (ap (to-come file) (c .words-of .ensures)))
 
 pub vektrid-visits-open-spec : {M : Type 1} → statement M
 vektrid-visits-open-spec =

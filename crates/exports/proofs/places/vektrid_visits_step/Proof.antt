@@ -1,39 +1,50 @@
+-- `places::vektrid_visits_step` meets its contract.
+-- Assumes nothing.
+use mathlib.Core.Path.{ap₂, _∙_}
+use denote.Ref.{now}
+use mir.Syntax.{w32}
+use mir.ValLaws.{toZ-ofZ}
+use Rattle.exports.specs.Words.{VisitWords, visit-words}
+use Rattle.exports.proofs.Words.{step-ended, step-visited}
 use borrow.Author.Needs.{needs}
 use Rattle.exports.proofs.places.vektrid_visits_step.Statement.{statement}
 use Rattle.exports.proofs.places.vektrid_visits_step.Tie as tie
-use Rattle.exports.proofs.places.vektrid_visits_step.Reads as reads
-use Rattle.exports.proofs.places.vektrid_visits_step.Lts as lts
-use Rattle.exports.proofs.places.place_of.Reads as place-of-reads
-use Rattle.exports.proofs.places.words_of.Reads as words-of-reads
-use Rattle.visits.proofs.place.Place.step.Reads as step-reads
 
--- src/places.rt:120:9
+-- the lent words at entry
+abbrev held : tie.Start → VisitWords
+held s = let a = s .args in visit-words (now (a .given)) (now (a .number)) (now (a .index)) (now (a .px)) (now (a .py))
+
 place-of-requires : tie.Need-place-of-requires
 place-of-requires c κs = search needs
 
--- src/places.rt:121:9
 step-requires : tie.Need-step-requires
 step-requires c κs = search needs
 
--- src/places.rt:123:9
 words-of-requires : tie.Need-words-of-requires
 words-of-requires c κs = search needs
 
--- src/places.rt:126:23
 enum-known-step : tie.Need-enum-known-step
 enum-known-step c = search needs
 
--- src/places.rt:127:9
 enum-told : tie.Need-enum-told
 enum-told c = search needs
 
--- src/places.rt:128:9
 returns : tie.Need-returns
-returns c = ?
+returns c = let d = c .before .before in
+    let t = d .before .before in
+    let s = t .before .before .before .before in
+    step-ended (now (s .args .file)) (now (s .args .place)) (d .words-of .result) (t .before .place-of .ensures) (d .words-of .ensures) (held s)
+    (t .step .ensures) (c .enum-told .given .1)
 
--- src/places.rt:104:1
 returns-2 : tie.Need-returns-2
-returns-2 c = ?
+returns-2 c = let d = c .before .before .before .before .before in
+    let t = d .before .before in
+    let s = t .before .before .before .before in
+    let v = c .before .before .before .step2 .given .0 .0 in
+    let (rest, words) = step-visited (now (s .args .file)) (now (s .args .place)) (d .words-of .result) (t .before .place-of .ensures)
+    (d .words-of .ensures) (held s) (t .step .ensures) (c .before .before .before .step2 .given .1) in
+    let last = c .struct-told2 .given .1 .1 in
+    (rest, ap₂ (visit-words 1 (v .number) (v .index)) (toZ-ofZ w32 (v .x) (search needs)) (toZ-ofZ w32 (v .y) (search needs)) ∙ words)
 
 pub vektrid-visits-step-spec : {M : Type 1} → statement M
 vektrid-visits-step-spec =
