@@ -1,5 +1,6 @@
 pub mod Outcomes
 pub mod Loading
+pub mod Stepping
 pub mod Refusals
 pub mod Signs
 pub mod Halves

@@ -1,41 +1,49 @@
--- Calls with a pair: what comes after loading its words, by the judgement that loading gave.
+-- Calls with a pair: what comes after loading its words, by the number that loading came to.
 -- Assumes nothing.
-use mathlib.Core.Path.{_≡_, sym, ap, _∙_}
+use mathlib.Core.Path.{_≡_, refl, sym, ap, _∙_}
 use mathlib.Core.Bool.{Bool, true, false, not}
+use mathlib.Core.Logic.{_≢_}
 use mathlib.Core.List.{List, [], _∷_}
 use Prim.Native.Nat.{ℕ}
+use native.Mathlib.Omega.{arith}
 use lib.Dec.{eqb}
 use lib.ListN.{length}
 use Rattle.refusal.specs.Outcome.{Outcome, accepted, refused, first, then}
-use Rattle.refusal.specs.declared.Refusal.{Refusal}
-use Rattle.refusal.specs.declared.Judgement.{Judgement}
-use Rattle.refusal.specs.declared.Judgement.the-variants as judgement
-use Rattle.refusal.specs.Refusal.{number, values, of-judgement}
-use Rattle.refusal.proofs.First.{accepted-refused, then-accepted, then-refused}
-use Rattle.plan.specs.Pair.{load-outcome}
+use Rattle.refusal.proofs.First.{then-accepted, then-refused}
+use Rattle.plan.specs.declared.pair.Plan.{Plan}
+use Rattle.plan.specs.Pair.{load-outcome, loaded}
+use Rattle.exports.specs.Answers.{answer}
+use Rattle.exports.specs.Calls.{of-pair}
 
-module _ {o : Outcome Unit} {judged : Judgement} (loads : of-judgement judged ≡ o) where
-  pub load-refused : {why : Refusal} → judged ≡ judgement.Refused why → o ≡ refused (number why) (values why)
-  load-refused e = sym loads ∙ ap of-judgement e
+-- loading by its one test
+abbrev tested : Bool → Outcome Unit
+tested b = first (record { number = 1; holds = b } ∷ []) (accepted tt)
 
-  pub load-accepted : judged ≡ judgement.Accepted → o ≡ accepted tt
-  load-accepted e = sym loads ∙ ap of-judgement e
+test-refused : (b : Bool) {n : ℕ} → n ≡ answer (tested b) → n ≢ 0 → tested b ≡ refused n []
+unfolding first
+test-refused true is some = ap (λ (k : ℕ). refused k []) (sym is)
+test-refused false is some = absurd (some is)
+
+test-accepted : (b : Bool) {n : ℕ} → n ≡ answer (tested b) → n ≡ 0 → tested b ≡ accepted tt
+unfolding first
+test-accepted true is none = absurd (omega arith)
+test-accepted false is none = refl
+
+module _ (words : List ℕ) {n : ℕ} (is : n ≡ answer (load-outcome words)) where
+  pub load-refused : n ≢ 0 → load-outcome words ≡ refused n []
+  load-refused = test-refused (not (eqb (length words) 64)) is
+
+  pub load-accepted : n ≡ 0 → load-outcome words ≡ accepted tt
+  load-accepted = test-accepted (not (eqb (length words) 64)) is
 
   module _ {A : Type 0} (after : Outcome A) where
-    pub stops : {why : Refusal} → judged ≡ judgement.Refused why → then o after ≡ refused (number why) (values why)
-    stops e = then-refused after (load-refused e)
+    pub stops : n ≢ 0 → then (load-outcome words) after ≡ refused n []
+    stops some = then-refused after (load-refused some)
 
-    pub goes-on : judged ≡ judgement.Accepted → then o after ≡ after
-    goes-on e = then-accepted after (load-accepted e)
+    pub goes-on : n ≡ 0 → then (load-outcome words) after ≡ after
+    goes-on none = then-accepted after (load-accepted none)
 
--- 1 gives no values
-pub load-no-values : (words : List ℕ) {n : ℕ} {vs : List ℕ} → load-outcome words ≡ refused n vs → vs ≡ []
-unfolding first
-load-no-values words {n} {vs} e = go (not (eqb (length words) 64)) e
-  where
-    done : Outcome Unit
-    done = accepted tt
-
-    go : (b : Bool) → first (record { number = 1; holds = b } ∷ []) done ≡ refused n vs → vs ≡ []
-    go true e = cc
-    go false e = absurd (accepted-refused e)
+  -- what a call made of the matrices
+  pub gives : {A : Type 0} (make : Plan → A) {P : Plan} {a : A} → P ≡ loaded words → a ≡ make P → n ≡ 0
+      → of-pair words (make (loaded words)) ≡ accepted a
+  gives make plan made none = goes-on _ none ∙ ap accepted (sym (made ∙ ap make plan))

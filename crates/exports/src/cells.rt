@@ -1,7 +1,6 @@
 // The query of a cell.
-use plan::Plan;
+use crate::pairs::pair_of;
 use plan::Shift;
-use refusal::Judgement;
 use refusal::Refusal;
 use stratify::Located;
 ghost use mathlib.Core.Path.{_≡_};
@@ -29,12 +28,11 @@ pub extern "C" fn vektrid_query(
         ≡ handed (pair-query-outcome (now (words .entry)) sx sy level m a column row block) (λ i. i) (now (index .entry)) ⌝ }
     ensures j { λ _. ⌜ now (j .exit) ≡ value (pair-query-outcome (now (words .entry)) sx sy level m a column row block) 2 (now (j .entry)) ⌝ }
 {
-    let loaded = Plan::load(words);
-    let answer = loaded.answer;
-    if let Judgement::Refused(why) = answer {
-        return why.number();
+    let pair = pair_of(words);
+    if pair.number != 0 {
+        return pair.number;
     }
-    let plan = loaded.plan;
+    let plan = pair.plan;
     let located = stratify::query(
         plan,
         Shift { x: sx, y: sy },

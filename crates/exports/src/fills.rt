@@ -1,8 +1,7 @@
 // Fills of two lent buffers.
 use crate::answers::number_of;
-use plan::Plan;
+use crate::pairs::pair_of;
 use plan::Shift;
-use refusal::Judgement;
 ghost use mathlib.Core.Path.{_≡_};
 ghost use Rattle.exports.specs.Answers.{answer};
 ghost use Rattle.exports.specs.Calls.{pair-fill-outcome, pair-filled};
@@ -21,12 +20,11 @@ pub extern "C" fn vektrid_fill(
     ensures xs { λ _. ⌜ now (xs .exit) ≡ pair-filled (now (words .entry)) sx sy start (now (xs .entry)) (now (ys .entry)) .x ⌝ }
     ensures ys { λ _. ⌜ now (ys .exit) ≡ pair-filled (now (words .entry)) sx sy start (now (xs .entry)) (now (ys .entry)) .y ⌝ }
 {
-    let loaded = Plan::load(words);
-    let answer = loaded.answer;
-    if let Judgement::Refused(why) = answer {
-        return why.number();
+    let pair = pair_of(words);
+    if pair.number != 0 {
+        return pair.number;
     }
-    let plan = loaded.plan;
+    let plan = pair.plan;
     let filled = plan::fill(plan, Shift { x: sx, y: sy }, start, xs, ys);
     number_of(filled)
 }

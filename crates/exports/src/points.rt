@@ -1,7 +1,7 @@
 // Points by their indexes.
+use crate::pairs::pair_of;
 use plan::Plan;
 use plan::Shift;
-use refusal::Judgement;
 ghost use mathlib.Core.Path.{_≡_};
 ghost use Rattle.net.specs.Sequence.{point};
 ghost use Rattle.plan.specs.Pair.{sequence, standard-pair};
@@ -22,12 +22,11 @@ pub extern "C" fn vektrid_point(
     ensures x { λ _. ⌜ now (x .exit) ≡ handed (point-outcome (now (words .entry)) sx sy index) (λ p. p .0) (now (x .entry)) ⌝ }
     ensures y { λ _. ⌜ now (y .exit) ≡ handed (point-outcome (now (words .entry)) sx sy index) (λ p. p .1) (now (y .entry)) ⌝ }
 {
-    let loaded = Plan::load(words);
-    let answer = loaded.answer;
-    if let Judgement::Refused(why) = answer {
-        return why.number();
+    let pair = pair_of(words);
+    if pair.number != 0 {
+        return pair.number;
     }
-    let plan = loaded.plan;
+    let plan = pair.plan;
     let at = plan.point(Shift { x: sx, y: sy }, index);
     *x = at.x;
     *y = at.y;
@@ -59,12 +58,11 @@ pub extern "C" fn vektrid_point_singles(
     ensures x { λ _. ⌜ now (x .exit) ≡ handed (singles-outcome (now (words .entry)) sx sy index) (λ p. p .x) (now (x .entry)) ⌝ }
     ensures y { λ _. ⌜ now (y .exit) ≡ handed (singles-outcome (now (words .entry)) sx sy index) (λ p. p .y) (now (y .entry)) ⌝ }
 {
-    let loaded = Plan::load(words);
-    let answer = loaded.answer;
-    if let Judgement::Refused(why) = answer {
-        return why.number();
+    let pair = pair_of(words);
+    if pair.number != 0 {
+        return pair.number;
     }
-    let plan = loaded.plan;
+    let plan = pair.plan;
     let at = unit::singles_at(plan, Shift { x: sx, y: sy }, index);
     *x = at.x;
     *y = at.y;

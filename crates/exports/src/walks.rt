@@ -1,10 +1,9 @@
 // Walks: the caller keeps the next index and the visits left.
+use crate::pairs::pair_of;
 use plan::Opened;
-use plan::Plan;
 use plan::Shift;
 use plan::Step;
 use plan::Walk;
-use refusal::Judgement;
 use unit::SinglesStep;
 ghost use mathlib.Core.Path.{_≡_};
 ghost use Prim.Native.Nat.{ℕ};
@@ -49,16 +48,15 @@ pub extern "C" fn vektrid_walk_step(
         ≡ told (step-outcome (now (words .entry)) sx sy (now (next .entry)) (now (left .entry))) (λ v. v .index) (λ v. (v .x, v .y))
         (step-words (now (next .entry)) (now (left .entry)) (now (given .entry)) (now (index .entry)) (now (x .entry), now (y .entry))) ⌝ }
 {
-    let loaded = Plan::load(words);
-    let answer = loaded.answer;
-    if let Judgement::Refused(why) = answer {
-        return why.number();
+    let pair = pair_of(words);
+    if pair.number != 0 {
+        return pair.number;
     }
     let walk = Walk {
         next: *next,
         left: *left,
     };
-    let plan = loaded.plan;
+    let plan = pair.plan;
     let stepped = walk.step(plan, Shift { x: sx, y: sy });
     let after = stepped.walk;
     *next = after.next;
@@ -94,16 +92,15 @@ pub extern "C" fn vektrid_walk_step_singles(
         ≡ told (step-singles-outcome (now (words .entry)) sx sy (now (next .entry)) (now (left .entry))) (λ v. v .index) (λ v. v .at)
         (step-words (now (next .entry)) (now (left .entry)) (now (given .entry)) (now (index .entry)) (singles (now (x .entry)) (now (y .entry)))) ⌝ }
 {
-    let loaded = Plan::load(words);
-    let answer = loaded.answer;
-    if let Judgement::Refused(why) = answer {
-        return why.number();
+    let pair = pair_of(words);
+    if pair.number != 0 {
+        return pair.number;
     }
     let walk = Walk {
         next: *next,
         left: *left,
     };
-    let plan = loaded.plan;
+    let plan = pair.plan;
     let stepped = unit::step_singles(walk, plan, Shift { x: sx, y: sy });
     let after = stepped.walk;
     *next = after.next;

@@ -8,7 +8,7 @@ use Rattle.plan.specs.declared.pair.Plan.{Plan}
 use Rattle.stratify.specs.Answers.{query-outcome, of-located}
 use Rattle.exports.specs.Calls.{pair-query-outcome}
 use Rattle.exports.proofs.Outcomes.{refused-answer, refused-leaves, refused-gives, accepted-answer, accepted-hands, accepted-leaves}
-use Rattle.exports.proofs.Loading.{load-refused, load-no-values, stops, goes-on}
+use Rattle.exports.proofs.Loading.{stops, goes-on}
 use Rattle.exports.proofs.Refusals.{no-values}
 use borrow.Author.Needs.{needs}
 use Rattle.exports.proofs.cells.vektrid_query.Statement.{statement}
@@ -18,31 +18,19 @@ use Rattle.exports.proofs.cells.vektrid_query.Tie as tie
 located : (c : tie.After-query) → let a = c .before .before .before .before .before .before .args in
     pair-query-outcome (a .words .now) (a .sx) (a .sy) (a .level) (a .m) (a .a) (a .column) (a .row) (a .block) ≡ of-located (c .query .result)
 located c =
-    let a = c .before .before .before .before .before .before .args in
-    let loads = c .before .before .before .before .load .ensures in
-    goes-on (loads .0) _ (c .before .before .enum-told .given .1)
+    let p = c .before .before .before .before in
+    let a = p .before .before .args in
+    goes-on (a .words .now) (p .pair-of .ensures .0) _ (c .before .before .if1 .left)
     ∙ sym (c .query .ensures ∙ ap
-    (λ (P : Plan). query-outcome P (record { x = a .sx; y = a .sy }) (a .level) (a .m) (a .a) (a .block) (a .column) (a .row)) (loads .1))
+    (λ (P : Plan). query-outcome P (record { x = a .sx; y = a .sy }) (a .level) (a .m) (a .a) (a .block) (a .column) (a .row)) (p .pair-of .ensures .1))
 
-load-requires : tie.Need-load-requires
-load-requires c κs = search needs
-
-enum-known-answer : tie.Need-enum-known-answer
-enum-known-answer c = search needs
-
-number-requires : tie.Need-number-requires
-number-requires c κs = search needs
+pair-of-requires : tie.Need-pair-of-requires
+pair-of-requires c κs = search needs
 
 returns : tie.Need-returns
-returns c = let d = c .before .before .before .before in
-    let loads = d .load .ensures .0 in
-    let why = c .before .before .answer .given .0 .0 in
-    let no = c .before .before .answer .given .1 in
-    let e = stops loads _ no ∙ ap (refused (number why)) (load-no-values (d .before .before .args .words .now) (load-refused loads no)) in
-    (c .number .ensures ∙ refused-answer e, (refused-leaves e _ _, refused-gives e 2 _))
-
-enum-told : tie.Need-enum-told
-enum-told c = search needs
+returns c = let p = c .before .before in
+    let e = stops (p .before .before .args .words .now) (p .pair-of .ensures .0) _ (c .if1 .taken) in
+    (refused-answer e, (refused-leaves e _ _, refused-gives e 2 _))
 
 query-requires : tie.Need-query-requires
 query-requires c κs = search needs
@@ -56,8 +44,8 @@ enum-known-located-2 c = search needs
 enum-known-why : tie.Need-enum-known-why
 enum-known-why c = search needs
 
-number-requires-2 : tie.Need-number-requires-2
-number-requires-2 c κs = search needs
+number-requires : tie.Need-number-requires
+number-requires c κs = search needs
 
 returns-2 : tie.Need-returns-2
 returns-2 c = let e = located (c .before .before .before) ∙ ap of-located (c .before .located .given .1) in
@@ -70,25 +58,22 @@ returns-3 c = let d = c .before .before .before in
     ⊎-elim
     (λ w.
     let three = e ∙ ap of-refusal (w .1 .given .1) in
-    (c .number2 .ensures ∙ ap number (w .4) ∙ refused-answer three, (refused-leaves three _ _, w .3 ∙ refused-gives three 2 _)))
+    (c .number .ensures ∙ ap number (w .4) ∙ refused-answer three, (refused-leaves three _ _, w .3 ∙ refused-gives three 2 _)))
     (λ w.
     let other = e ∙ ap (refused (number why)) (no-values why (w .0 .keys2)) in
-    (c .number2 .ensures ∙ ap number (w .2) ∙ refused-answer other, (refused-leaves other _ _, w .1 ∙ refused-gives other 2 _)))
-    (c .before .match3 .came)
+    (c .number .ensures ∙ ap number (w .2) ∙ refused-answer other, (refused-leaves other _ _, w .1 ∙ refused-gives other 2 _)))
+    (c .before .match2 .came)
 
 pub vektrid-query-spec : {M : Type 1} → statement M
 vektrid-query-spec =
     tie.close
     (tie.spec
-    load-requires
-    enum-known-answer
-    number-requires
+    pair-of-requires
     returns
-    enum-told
     query-requires
     enum-known-located
     enum-known-located-2
     enum-known-why
-    number-requires-2
+    number-requires
     returns-2
     returns-3)

@@ -1,12 +1,11 @@
 -- `pairs::vektrid_check` meets its contract.
 -- Assumes nothing.
-use mathlib.Core.Path.{ap, _∙_}
+use mathlib.Core.Path.{sym, ap, _∙_}
 use mathlib.Core.Logic.{⊎-elim}
 use borrow.Author.Needs.{needs}
 use Rattle.refusal.specs.Outcome.{refused}
-use Rattle.refusal.specs.Refusal.{number, of-refusal}
+use Rattle.refusal.specs.Refusal.{number, of-refusal, of-judgement}
 use Rattle.exports.proofs.Outcomes.{refused-answer, refused-gives, accepted-answer, accepted-leaves}
-use Rattle.exports.proofs.Loading.{load-refused, load-accepted}
 use Rattle.exports.proofs.Refusals.{no-values}
 use Rattle.exports.proofs.pairs.vektrid_check.Statement.{statement}
 use Rattle.exports.proofs.pairs.vektrid_check.Tie as tie
@@ -21,7 +20,7 @@ enum-told : tie.Need-enum-told
 enum-told c = search needs
 
 returns : tie.Need-returns
-returns c = let e = load-accepted (c .before .before .check .ensures) (c .enum-told .given .1) in
+returns c = let e = sym (c .before .before .check .ensures) ∙ ap of-judgement (c .enum-told .given .1) in
     (accepted-answer e, (accepted-leaves e 0 _, (accepted-leaves e 1 _, accepted-leaves e 2 _)))
 
 enum-known-why : tie.Need-enum-known-why
@@ -33,7 +32,7 @@ number-requires c κs = search needs
 returns-2 : tie.Need-returns-2
 returns-2 c = let d = c .before .before .before in
     let why = d .answer .given .0 .0 in
-    let e = load-refused (d .before .before .check .ensures) (d .answer .given .1) in
+    let e = sym (d .before .before .check .ensures) ∙ ap of-judgement (d .answer .given .1) in
     ⊎-elim
     (λ w.
     let three = e ∙ ap of-refusal (w .1 .given .1) in (

@@ -1,45 +1,29 @@
 -- `walks::vektrid_walk_step` meets its contract.
 -- Assumes nothing.
-use mathlib.Core.Path.{_≡_, sym, ap, _∙_}
+use Prim.Native.Nat.{ℕ}
+use mathlib.Core.Path.{ap}
+use denote.Ref.{now}
 use Rattle.net.specs.Run.{visit}
-use Rattle.net.specs.Walk.{Walk, step}
-use Rattle.refusal.specs.Outcome.{accepted}
-use Rattle.plan.specs.declared.pair.Plan.{Plan}
-use Rattle.plan.specs.Pair.{sequence}
-use Rattle.plan.specs.Range.{last-index}
-use Rattle.plan.specs.Walk.{of-step, of-stepped}
-use Rattle.exports.specs.Calls.{step-outcome}
-use Rattle.exports.proofs.Outcomes.{refused-answer, refused-leaves, accepted-answer, visit-told, end-told}
-use Rattle.exports.proofs.Loading.{stops, goes-on}
+use Rattle.plan.specs.Walk.{of-step}
+use Rattle.exports.specs.Answers.{StepWords, step-words}
+use Rattle.exports.proofs.Outcomes.{refused-answer, refused-leaves}
+use Rattle.exports.proofs.Loading.{stops}
+use Rattle.exports.proofs.Stepping.{step-visited, step-ended}
 use borrow.Author.Needs.{needs}
 use Rattle.exports.proofs.walks.vektrid_walk_step.Statement.{statement}
 use Rattle.exports.proofs.walks.vektrid_walk_step.Tie as tie
 
--- the pair was loaded, and the step taken
-stepped : (c : tie.After-step) → let a = c .before .before .before .before .before .before .before .before .args in
-    step-outcome (a .words .now) (a .sx) (a .sy) (a .next .now) (a .left .now) ≡ accepted (of-stepped (c .step .result))
-stepped c =
-    let a = c .before .before .before .before .before .before .before .before .args in
-    let loads = c .before .before .before .before .before .before .load .ensures in
-    let w : Walk = record { next = a .next .now; left = a .left .now } in
-    let is = c .step .ensures ∙ ap (λ (P : Plan). step (visit (sequence P (record { x = a .sx; y = a .sy }))) last-index w) (loads .1) in
-    goes-on (loads .0) _ (c .before .before .before .before .enum-told .given .1) ∙ ap accepted (sym is)
+-- the lent words at entry
+abbrev held : tie.Start → StepWords (ℕ × ℕ)
+held s = let a = s .args in step-words (now (a .next)) (now (a .left)) (now (a .given)) (now (a .index)) (now (a .x), now (a .y))
 
-load-requires : tie.Need-load-requires
-load-requires c κs = search needs
-
-enum-known-answer : tie.Need-enum-known-answer
-enum-known-answer c = search needs
-
-number-requires : tie.Need-number-requires
-number-requires c κs = search needs
+pair-of-requires : tie.Need-pair-of-requires
+pair-of-requires c κs = search needs
 
 returns : tie.Need-returns
-returns c = let e = stops (c .before .before .before .before .load .ensures .0) _ (c .before .before .answer .given .1) in
-    (c .number .ensures ∙ refused-answer e, refused-leaves e _ _)
-
-enum-told : tie.Need-enum-told
-enum-told c = search needs
+returns c = let p = c .before .before in
+    let e = stops (p .before .before .args .words .now) (p .pair-of .ensures .0) _ (c .if1 .taken) in
+    (refused-answer e, refused-leaves e _ _)
 
 step-requires : tie.Need-step-requires
 step-requires c κs = search needs
@@ -47,28 +31,24 @@ step-requires c κs = search needs
 enum-known-step : tie.Need-enum-known-step
 enum-known-step c = search needs
 
-enum-told-2 : tie.Need-enum-told-2
-enum-told-2 c = search needs
+enum-told : tie.Need-enum-told
+enum-told c = search needs
 
 returns-2 : tie.Need-returns-2
-returns-2 c = let e = stepped (c .before .before .before) in
-    (accepted-answer e, end-told e _ _ _ (ap of-step (c .enum-told2 .given .1)))
+returns-2 c = let t = c .before .before .before in
+    let p = t .before .before .before .before .before .before in
+    let a = p .before .before .args in
+    step-ended visit (λ v. v .index) (λ v. (v .x, v .y)) (a .words .now) (a .sx) (a .sy) (held (p .before .before)) (p .pair-of .ensures)
+    (t .before .before .before .before .if1 .left) (t .step .ensures) (ap of-step (c .enum-told .given .1))
 
 returns-3 : tie.Need-returns-3
-returns-3 c = let e = stepped (c .before .before .before .before) in
-    (accepted-answer e, visit-told e _ _ _ (ap of-step (c .before .step2 .given .1)))
+returns-3 c = let t = c .before .before .before .before in
+    let p = t .before .before .before .before .before .before in
+    let a = p .before .before .args in
+    step-visited visit (λ v. v .index) (λ v. (v .x, v .y)) (a .words .now) (a .sx) (a .sy) (held (p .before .before)) (p .pair-of .ensures)
+    (t .before .before .before .before .if1 .left) (t .step .ensures) (ap of-step (c .before .step2 .given .1))
 
 pub vektrid-walk-step-spec : {M : Type 1} → statement M
 vektrid-walk-step-spec =
     tie.close
-    (tie.spec
-    load-requires
-    enum-known-answer
-    number-requires
-    returns
-    enum-told
-    step-requires
-    enum-known-step
-    enum-told-2
-    returns-2
-    returns-3)
+    (tie.spec pair-of-requires returns step-requires enum-known-step enum-told returns-2 returns-3)
