@@ -3,5 +3,5 @@ pub mod Loading
 pub mod Stepping
 pub mod Refusals
 pub mod Signs
-pub mod Halves
+pub mod Copies
 pub mod Words

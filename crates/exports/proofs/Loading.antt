@@ -44,6 +44,6 @@ module _ (words : List ℕ) {n : ℕ} (is : n ≡ answer (load-outcome words)) w
     goes-on none = then-accepted after (load-accepted none)
 
   -- what a call made of the matrices
-  pub gives : {A : Type 0} (make : Plan → A) {P : Plan} {a : A} → P ≡ loaded words → a ≡ make P → n ≡ 0
+  pub gives : n ≡ 0 → {A : Type 0} (make : Plan → A) {P : Plan} {a : A} → P ≡ loaded words → a ≡ make P
       → of-pair words (make (loaded words)) ≡ accepted a
-  gives make plan made none = goes-on _ none ∙ ap accepted (sym (made ∙ ap make plan))
+  gives none make plan made = goes-on _ none ∙ ap accepted (sym (made ∙ ap make plan))

@@ -1,5 +1,6 @@
 // The query of a cell.
-use crate::pairs::pair_of;
+use crate::pairs::pair_answer;
+use plan::Plan;
 use plan::Shift;
 use refusal::Refusal;
 use stratify::Located;
@@ -28,11 +29,12 @@ pub extern "C" fn vektrid_query(
         ≡ handed (pair-query-outcome (now (words .entry)) sx sy level m a column row block) (λ i. i) (now (index .entry)) ⌝ }
     ensures j { λ _. ⌜ now (j .exit) ≡ value (pair-query-outcome (now (words .entry)) sx sy level m a column row block) 2 (now (j .entry)) ⌝ }
 {
-    let pair = pair_of(words);
-    if pair.number != 0 {
-        return pair.number;
+    let answer = pair_answer(words);
+    if answer != 0 {
+        return answer;
     }
-    let plan = pair.plan;
+    let loaded = Plan::load(words);
+    let plan = loaded.plan;
     let located = stratify::query(
         plan,
         Shift { x: sx, y: sy },

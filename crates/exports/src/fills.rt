@@ -1,6 +1,7 @@
 // Fills of two lent buffers.
 use crate::answers::number_of;
-use crate::pairs::pair_of;
+use crate::pairs::pair_answer;
+use plan::Plan;
 use plan::Shift;
 ghost use mathlib.Core.Path.{_≡_};
 ghost use Rattle.exports.specs.Answers.{answer};
@@ -20,11 +21,12 @@ pub extern "C" fn vektrid_fill(
     ensures xs { λ _. ⌜ now (xs .exit) ≡ pair-filled (now (words .entry)) sx sy start (now (xs .entry)) (now (ys .entry)) .x ⌝ }
     ensures ys { λ _. ⌜ now (ys .exit) ≡ pair-filled (now (words .entry)) sx sy start (now (xs .entry)) (now (ys .entry)) .y ⌝ }
 {
-    let pair = pair_of(words);
-    if pair.number != 0 {
-        return pair.number;
+    let answer = pair_answer(words);
+    if answer != 0 {
+        return answer;
     }
-    let plan = pair.plan;
+    let loaded = Plan::load(words);
+    let plan = loaded.plan;
     let filled = plan::fill(plan, Shift { x: sx, y: sy }, start, xs, ys);
     number_of(filled)
 }

@@ -1,33 +1,24 @@
-// Pairs: their words, the standard one, and the check.
-use crate::answers::number_of;
+// Pairs: words that are one, the standard one, and the check.
 use plan::Plan;
 use refusal::Judgement;
 use refusal::Refusal;
 use word::Columns;
 ghost use mathlib.Core.Path.{_≡_};
 ghost use lib.ListN.{length};
-ghost use Rattle.plan.specs.Pair.{load-outcome, loaded};
+ghost use Rattle.plan.specs.Pair.{load-outcome};
 ghost use Rattle.stratify.specs.Answers.{check-outcome};
 ghost use Rattle.exports.specs.Answers.{answer, value};
 ghost use Rattle.exports.specs.Calls.{standard-words};
 
-// A pair by its words: 0 with its matrices, or 1.
-pub(crate) struct Pair {
-    pub number: u32,
-    pub plan: Plan,
-}
-
-pub(crate) fn pair_of(words: &[u32]) -> Pair
-    ensures number { λ r. ⌜ r .number ≡ answer (load-outcome (now (words .entry))) ⌝ }
-    ensures plan { λ r. ⌜ r .plan ≡ loaded (now (words .entry)) ⌝ }
+// 0, or 1 where the words are no pair.
+pub(crate) fn pair_answer(words: &[u32]) -> u32
+    ensures { λ r. ⌜ r ≡ answer (load-outcome (now (words .entry))) ⌝ }
 {
-    let read = Plan::load(words);
-    let answer = read.answer;
-    let plan = read.plan;
-    Pair {
-        number: number_of(answer),
-        plan,
+    if words.len() != 64 {
+        let why = Refusal::WordCount;
+        return why.number();
     }
+    0
 }
 
 // 32 columns, into as many words.

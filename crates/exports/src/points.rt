@@ -1,5 +1,5 @@
 // Points by their indexes.
-use crate::pairs::pair_of;
+use crate::pairs::pair_answer;
 use plan::Plan;
 use plan::Shift;
 ghost use mathlib.Core.Path.{_≡_};
@@ -22,11 +22,12 @@ pub extern "C" fn vektrid_point(
     ensures x { λ _. ⌜ now (x .exit) ≡ handed (point-outcome (now (words .entry)) sx sy index) (λ p. p .0) (now (x .entry)) ⌝ }
     ensures y { λ _. ⌜ now (y .exit) ≡ handed (point-outcome (now (words .entry)) sx sy index) (λ p. p .1) (now (y .entry)) ⌝ }
 {
-    let pair = pair_of(words);
-    if pair.number != 0 {
-        return pair.number;
+    let answer = pair_answer(words);
+    if answer != 0 {
+        return answer;
     }
-    let plan = pair.plan;
+    let loaded = Plan::load(words);
+    let plan = loaded.plan;
     let at = plan.point(Shift { x: sx, y: sy }, index);
     *x = at.x;
     *y = at.y;
@@ -58,11 +59,12 @@ pub extern "C" fn vektrid_point_singles(
     ensures x { λ _. ⌜ now (x .exit) ≡ handed (singles-outcome (now (words .entry)) sx sy index) (λ p. p .x) (now (x .entry)) ⌝ }
     ensures y { λ _. ⌜ now (y .exit) ≡ handed (singles-outcome (now (words .entry)) sx sy index) (λ p. p .y) (now (y .entry)) ⌝ }
 {
-    let pair = pair_of(words);
-    if pair.number != 0 {
-        return pair.number;
+    let answer = pair_answer(words);
+    if answer != 0 {
+        return answer;
     }
-    let plan = pair.plan;
+    let loaded = Plan::load(words);
+    let plan = loaded.plan;
     let at = unit::singles_at(plan, Shift { x: sx, y: sy }, index);
     *x = at.x;
     *y = at.y;

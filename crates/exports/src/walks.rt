@@ -1,6 +1,7 @@
 // Walks: the caller keeps the next index and the visits left.
-use crate::pairs::pair_of;
+use crate::pairs::pair_answer;
 use plan::Opened;
+use plan::Plan;
 use plan::Shift;
 use plan::Step;
 use plan::Walk;
@@ -48,15 +49,16 @@ pub extern "C" fn vektrid_walk_step(
         ≡ told (step-outcome (now (words .entry)) sx sy (now (next .entry)) (now (left .entry))) (λ v. v .index) (λ v. (v .x, v .y))
         (step-words (now (next .entry)) (now (left .entry)) (now (given .entry)) (now (index .entry)) (now (x .entry), now (y .entry))) ⌝ }
 {
-    let pair = pair_of(words);
-    if pair.number != 0 {
-        return pair.number;
+    let answer = pair_answer(words);
+    if answer != 0 {
+        return answer;
     }
     let walk = Walk {
         next: *next,
         left: *left,
     };
-    let plan = pair.plan;
+    let loaded = Plan::load(words);
+    let plan = loaded.plan;
     let stepped = walk.step(plan, Shift { x: sx, y: sy });
     let after = stepped.walk;
     *next = after.next;
@@ -92,15 +94,16 @@ pub extern "C" fn vektrid_walk_step_singles(
         ≡ told (step-singles-outcome (now (words .entry)) sx sy (now (next .entry)) (now (left .entry))) (λ v. v .index) (λ v. v .at)
         (step-words (now (next .entry)) (now (left .entry)) (now (given .entry)) (now (index .entry)) (singles (now (x .entry)) (now (y .entry)))) ⌝ }
 {
-    let pair = pair_of(words);
-    if pair.number != 0 {
-        return pair.number;
+    let answer = pair_answer(words);
+    if answer != 0 {
+        return answer;
     }
     let walk = Walk {
         next: *next,
         left: *left,
     };
-    let plan = pair.plan;
+    let loaded = Plan::load(words);
+    let plan = loaded.plan;
     let stepped = unit::step_singles(walk, plan, Shift { x: sx, y: sy });
     let after = stepped.walk;
     *next = after.next;

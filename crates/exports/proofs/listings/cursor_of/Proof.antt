@@ -52,7 +52,8 @@ place-of-requires : tie.Need-place-of-requires
 place-of-requires c κs = search needs
 
 returns : tie.Need-returns
-returns c = let place = c .place-of .ensures ∙ behind-place (c .before .before .args .t1) in
+returns c =
+    let place = c .place-of .ensures ∙ behind-place (c .before .before .args .t1) in
     λ i. record { lead = c .before .lead-of .ensures i; place = place i }
 
 pub cursor-of-spec : {M : Type 1} → statement M

@@ -20,7 +20,8 @@ same-length : tie.Need-same-length
 same-length c = search needs
 
 returns : tie.Need-returns
-returns c = let d = c .before .before .before .before in
+returns c =
+    let d = c .before .before .before .before in
     let s = d .before .before .before .before .before .before in
     let piece = d .page .ensures .1 in
     let same = paged-same (now (s .args .file)) _ _ (d .before .before .cursor-of .ensures) (sym (c .words-of-cursor .ensures)) in

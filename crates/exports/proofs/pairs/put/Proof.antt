@@ -1,13 +1,12 @@
 -- `pairs::put` meets its contract: after i turns the first i words are the columns'.
 -- Assumes nothing.
-use mathlib.Core.Path.{_≡_, refl, sym, ap, _∙_}
-use mathlib.Core.List.{List, [], _∷_, _++_}
-use Prim.Native.Nat.{ℕ, _≤_, _-_}
-use native.Mathlib.Numerals.{add-one}
+use mathlib.Core.Path.{_≡_, refl, sym, _∙_}
+use Prim.Native.Nat.{_≤_, _-_}
 use native.Mathlib.Omega.{arith}
 use borrow.Author.Needs.{needs}
-use lib.ListN.{length, getD, take, set, length-set}
-use lib.Seq.{take-suc, take-suc-set, take-all}
+use lib.ListN.{length, take, length-set}
+use lib.Seq.{take-all}
+use Rattle.exports.proofs.Copies.{one-more}
 use Rattle.exports.proofs.pairs.put.Statement.{statement}
 use Rattle.exports.proofs.pairs.put.Tie as tie
 
@@ -40,24 +39,17 @@ loop-less c = search needs
 
 loop-again : tie.Need-loop-again Inv-loop μ-loop
 loop-again c =
-    let i = c .before .loop in
-    let w = c .before .before .args .t1 in (
-      omega arith,
-      simp length-set (i .inv .1),
-      ap (λ (k : ℕ). take k (set (i .out) (i .i) (getD w (i .i) 0))) (add-one (i .i))
-          ∙ take-suc-set (i .out) (i .i) (getD w (i .i) 0) (omega arith)
-          ∙ ap (λ (l : List ℕ). l ++ (getD w (i .i) 0 ∷ [])) (i .inv .2)
-          ∙ sym (ap (λ (k : ℕ). take k w) (add-one (i .i)) ∙ take-suc w (i .i) 0 (omega arith)),
-    )
+    let l = c .before .loop in
+    let w = c .before .before .args .t1 in
+    (omega arith, simp length-set (l .inv .1), one-more (l .out) w (l .i) (omega arith) (omega arith) (l .inv .2))
 
 same-length : tie.Need-same-length Inv-loop μ-loop
 same-length c = search needs
 
 returns : tie.Need-returns Inv-loop μ-loop
 returns c =
-    let i = c .before .loop in
-    let w = c .before .before .args .t1 in
-    sym (take-all (i .i) (i .out) (omega arith)) ∙ i .inv .2 ∙ take-all (i .i) w (omega arith)
+    let l = c .before .loop in
+    sym (take-all (l .i) (l .out) (omega arith)) ∙ l .inv .2 ∙ take-all (l .i) (c .before .before .args .t1) (omega arith)
 
 pub put-spec : {M : Type 1} → statement M
 put-spec =

@@ -20,7 +20,8 @@ enum-told : tie.Need-enum-told
 enum-told c = search needs
 
 returns : tie.Need-returns
-returns c = let e = sym (c .before .before .check .ensures) ∙ ap of-judgement (c .enum-told .given .1) in
+returns c =
+    let e = sym (c .before .before .check .ensures) ∙ ap of-judgement (c .enum-told .given .1) in
     (accepted-answer e, (accepted-leaves e 0 _, (accepted-leaves e 1 _, accepted-leaves e 2 _)))
 
 enum-known-why : tie.Need-enum-known-why
@@ -30,7 +31,8 @@ number-requires : tie.Need-number-requires
 number-requires c κs = search needs
 
 returns-2 : tie.Need-returns-2
-returns-2 c = let d = c .before .before .before in
+returns-2 c =
+    let d = c .before .before .before in
     let why = d .answer .given .0 .0 in
     let e = sym (d .before .before .check .ensures) ∙ ap of-judgement (d .answer .given .1) in
     ⊎-elim

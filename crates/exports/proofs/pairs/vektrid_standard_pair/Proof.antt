@@ -10,7 +10,7 @@ use Rattle.refusal.proofs.First.{granted-accepted, granted-refused}
 use Rattle.plan.specs.declared.pair.Plan.{Plan}
 use Rattle.plan.proofs.Loading.{loading-refuses, loading-accepts}
 use Rattle.exports.proofs.Outcomes.{refused-answer, accepted-answer}
-use Rattle.exports.proofs.Halves.{halves}
+use Rattle.exports.proofs.Copies.{halves}
 use borrow.Author.Needs.{needs}
 use Rattle.exports.proofs.pairs.vektrid_standard_pair.Statement.{statement}
 use Rattle.exports.proofs.pairs.vektrid_standard_pair.Tie as tie
@@ -19,7 +19,8 @@ number-requires : tie.Need-number-requires
 number-requires c κs = search needs
 
 returns : tie.Need-returns
-returns c = let e = loading-refuses (c .before .before .before .args .words .now) (c .before .if1 .taken) in
+returns c =
+    let e = loading-refuses (c .before .before .before .args .words .now) (c .before .if1 .taken) in
     (c .number .ensures ∙ refused-answer e, sym (granted-refused _ _ e))
 
 standard-requires : tie.Need-standard-requires
@@ -50,7 +51,8 @@ same-length : tie.Need-same-length
 same-length c = search needs
 
 returns-2 : tie.Need-returns-2
-returns-2 c = let d = c .before .before .before .before .before .before in
+returns-2 c =
+    let d = c .before .before .before .before .before .before in
     let s = d .before .before .before .before in
     let w = s .before .before .before .args .words .now in
     let e = loading-accepts w (s .before .if1 .left) in

@@ -49,7 +49,8 @@ array-read-t40 : tie.Need-array-read-t40
 array-read-t40 c = search needs
 
 returns : tie.Need-returns
-returns c = let l = c .before .signed in
+returns c =
+    let l = c .before .signed in
     let t = c .signed2 in
     ap₂ (edged (place-of (c .before .before .args .t1))) (toZ-ofZ w32 (l .result) (record { sfits = l .ok }) ∙ l .ensures)
     (toZ-ofZ w32 (t .result) (record { sfits = t .ok }) ∙ t .ensures)

@@ -25,13 +25,15 @@ words-of-requires : tie.Need-words-of-requires
 words-of-requires c κs = search needs
 
 returns : tie.Need-returns
-returns c = let d = c .before .before .before .before in
+returns c =
+    let d = c .before .before .before .before in
     let file = now (d .before .before .args .file) in
     let e = sym (d .«open» .ensures) ∙ ap (of-opened file) (c .before .before .opened .given .1) in
     (c .number .ensures ∙ refused-answer e, unopened file _ _ e refl)
 
 returns-2 : tie.Need-returns-2
-returns-2 c = let d = c .before .before .before .before in
+returns-2 c =
+    let d = c .before .before .before .before in
     let file = now (d .before .before .args .file) in
     let e = sym (d .«open» .ensures) ∙ ap (of-opened file) (c .before .before .opened2 .given .1) in
     (accepted-answer e, opened file _ _ e (ap (to-come file) (c .words-of .ensures)))

@@ -30,14 +30,16 @@ enum-told : tie.Need-enum-told
 enum-told c = search needs
 
 returns : tie.Need-returns
-returns c = let d = c .before .before in
+returns c =
+    let d = c .before .before in
     let t = d .before .before in
     let s = t .before .before .before .before in
     step-ended (now (s .args .file)) (now (s .args .place)) (d .words-of .result) (t .before .place-of .ensures) (d .words-of .ensures) (held s)
     (t .step .ensures) (c .enum-told .given .1)
 
 returns-2 : tie.Need-returns-2
-returns-2 c = let d = c .before .before .before .before .before in
+returns-2 c =
+    let d = c .before .before .before .before .before in
     let t = d .before .before in
     let s = t .before .before .before .before in
     let v = c .before .before .before .step2 .given .0 .0 in

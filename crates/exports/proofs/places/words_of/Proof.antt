@@ -15,7 +15,8 @@ unsigned-requires-2 : tie.Need-unsigned-requires-2
 unsigned-requires-2 c κs = search needs
 
 returns : tie.Need-returns
-returns c = let p = c .before .before .before .before .before .before .before .args .place in
+returns c =
+    let p = c .before .before .before .before .before .before .before .args .place in
     let r = p .planned .region in
     ap₂ (edged p) (c .before .unsigned .ensures ∙ toZ-ofZ w32 (r .left) (search needs)) (c .unsigned2 .ensures ∙ toZ-ofZ w32 (r .top) (search needs))
 

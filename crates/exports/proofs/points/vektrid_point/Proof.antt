@@ -8,23 +8,28 @@ use borrow.Author.Needs.{needs}
 use Rattle.exports.proofs.points.vektrid_point.Statement.{statement}
 use Rattle.exports.proofs.points.vektrid_point.Tie as tie
 
-pair-of-requires : tie.Need-pair-of-requires
-pair-of-requires c κs = search needs
+pair-answer-requires : tie.Need-pair-answer-requires
+pair-answer-requires c κs = search needs
 
 returns : tie.Need-returns
-returns c = let p = c .before .before in
-    let e = stops (p .before .before .args .words .now) (p .pair-of .ensures .0) _ (c .if1 .taken) in
-    (refused-answer e, (refused-leaves e _ _, refused-leaves e _ _))
+returns c =
+    let e = stops (c .before .before .before .args .words .now) (c .before .pair-answer .ensures) _ (c .if1 .taken) in
+    (refused-answer e, (refused-leaves e (λ p. p .0) _, refused-leaves e (λ p. p .1) _))
+
+load-requires : tie.Need-load-requires
+load-requires c κs = search needs
 
 point-requires : tie.Need-point-requires
 point-requires c κs = search needs
 
 returns-2 : tie.Need-returns-2
-returns-2 c = let p = c .before .before .before .before in
-    let a = p .before .before .args in
-    let e = gives (a .words .now) (p .pair-of .ensures .0) (λ P. point (sequence P (record { x = a .sx; y = a .sy })) (a .index))
-    (p .pair-of .ensures .1) (c .point .ensures) (c .before .before .if1 .left) in
-    (accepted-answer e, (accepted-hands e (λ q. q .0) _, accepted-hands e (λ q. q .1) _))
+returns-2 c =
+    let l = c .before .before in
+    let a = l .before .before .before .before .args in
+    let e = gives (a .words .now) (l .before .before .pair-answer .ensures) (l .before .if1 .left)
+    (λ P. point (sequence P (record { x = a .sx; y = a .sy })) (a .index)) (l .load .ensures .1) (c .point .ensures) in
+    (accepted-answer e, (accepted-hands e (λ p. p .0) _, accepted-hands e (λ p. p .1) _))
 
 pub vektrid-point-spec : {M : Type 1} → statement M
-vektrid-point-spec = tie.close (tie.spec pair-of-requires returns point-requires returns-2)
+vektrid-point-spec =
+    tie.close (tie.spec pair-answer-requires returns load-requires point-requires returns-2)

@@ -1,14 +1,23 @@
 -- `positions::vektrid_position` meets its contract.
 -- Assumes nothing.
-use mathlib.Core.Path.{sym, ap, _∙_}
+use mathlib.Core.Path.{_≡_, sym, ap, _∙_}
 use mir.Syntax.{w32}
 use mir.ValLaws.{toZ-ofZ}
 use Rattle.stage.specs.Region.{of-placed}
+use Rattle.exports.specs.Calls.{position-outcome}
 use Rattle.exports.proofs.Outcomes.{refused-answer, refused-leaves, accepted-answer, accepted-hands}
 use Rattle.exports.proofs.Signs.{region-read}
 use borrow.Author.Needs.{needs}
 use Rattle.exports.proofs.positions.vektrid_position.Statement.{statement}
 use Rattle.exports.proofs.positions.vektrid_position.Tie as tie
+
+-- the outcome, by what the region's method gave
+placed : (c : tie.After-position) → let a = c .before .args in
+    position-outcome (a .left) (a .top) (a .width) (a .height) (a .x) (a .y) ≡ of-placed (c .position .result)
+placed c =
+    let a = c .before .args in
+    let f = c .before .fits in
+    sym (c .position .ensures ∙ region-read (a .left) (a .top) (a .width) (a .height) (a .x) (a .y) (f .left) (f .top))
 
 position-requires : tie.Need-position-requires
 position-requires c κs = search needs
@@ -23,18 +32,19 @@ enum-known-placed-2 : tie.Need-enum-known-placed-2
 enum-known-placed-2 c = search needs
 
 returns : tie.Need-returns
-returns c = let d = c .before .before .before .before in
-    let a = d .before .args in
-    let e = sym (d .position .ensures ∙ region-read (a .left) (a .top) (a .width) (a .height) (a .x) (a .y) (d .before .fits .left) (d .before .fits .top))
-    ∙ ap of-placed (c .before .before .placed .given .1) in
-    (c .number .ensures ∙ refused-answer e, (refused-leaves e _ _, refused-leaves e _ _))
+returns c =
+    let e = placed (c .before .before .before .before) ∙ ap of-placed (c .before .before .placed .given .1) in
+    (c .number .ensures ∙ refused-answer e, (refused-leaves e (λ p. p .x) _, refused-leaves e (λ p. p .y) _))
 
 returns-2 : tie.Need-returns-2
-returns-2 c = let d = c .before .before .before .before .before in
-    let a = d .before .args in
-    let e = sym (d .position .ensures ∙ region-read (a .left) (a .top) (a .width) (a .height) (a .x) (a .y) (d .before .fits .left) (d .before .fits .top))
-    ∙ ap of-placed (c .before .before .before .placed2 .given .1) in
-    (accepted-answer e, (toZ-ofZ w32 _ (search needs) ∙ accepted-hands e (λ p. p .x) _, toZ-ofZ w32 _ (search needs) ∙ accepted-hands e (λ p. p .y) _))
+returns-2 c =
+    let e = placed (c .before .before .before .before .before) ∙ ap of-placed (c .before .before .before .placed2 .given .1) in (
+      accepted-answer e,
+      (
+        toZ-ofZ w32 _ (search needs) ∙ accepted-hands e (λ p. p .x) _,
+        toZ-ofZ w32 _ (search needs) ∙ accepted-hands e (λ p. p .y) _,
+      ),
+    )
 
 pub vektrid-position-spec : {M : Type 1} → statement M
 vektrid-position-spec =

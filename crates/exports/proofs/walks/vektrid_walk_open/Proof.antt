@@ -20,11 +20,13 @@ enum-known-opened-2 : tie.Need-enum-known-opened-2
 enum-known-opened-2 c = search needs
 
 returns : tie.Need-returns
-returns c = let e = sym (c .before .before .before .before .«open» .ensures) ∙ ap of-opened (c .before .before .opened .given .1) in
+returns c =
+    let e = sym (c .before .before .before .before .«open» .ensures) ∙ ap of-opened (c .before .before .opened .given .1) in
     (c .number .ensures ∙ refused-answer e, (refused-leaves e _ _, refused-leaves e _ _))
 
 returns-2 : tie.Need-returns-2
-returns-2 c = let e = sym (c .before .before .before .«open» .ensures) ∙ ap of-opened (c .before .opened2 .given .1) in
+returns-2 c =
+    let e = sym (c .before .before .before .«open» .ensures) ∙ ap of-opened (c .before .opened2 .given .1) in
     (accepted-answer e, (accepted-hands e (λ w. w .next) _, accepted-hands e (λ w. w .left) _))
 
 pub vektrid-walk-open-spec : {M : Type 1} → statement M

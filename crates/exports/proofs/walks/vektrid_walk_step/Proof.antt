@@ -1,14 +1,12 @@
 -- `walks::vektrid_walk_step` meets its contract.
 -- Assumes nothing.
-use Prim.Native.Nat.{ℕ}
 use mathlib.Core.Path.{ap}
+use Prim.Native.Nat.{ℕ}
 use denote.Ref.{now}
 use Rattle.net.specs.Run.{visit}
 use Rattle.plan.specs.Walk.{of-step}
 use Rattle.exports.specs.Answers.{StepWords, step-words}
-use Rattle.exports.proofs.Outcomes.{refused-answer, refused-leaves}
-use Rattle.exports.proofs.Loading.{stops}
-use Rattle.exports.proofs.Stepping.{step-visited, step-ended}
+use Rattle.exports.proofs.Stepping.{step-refused, step-visited, step-ended}
 use borrow.Author.Needs.{needs}
 use Rattle.exports.proofs.walks.vektrid_walk_step.Statement.{statement}
 use Rattle.exports.proofs.walks.vektrid_walk_step.Tie as tie
@@ -17,13 +15,16 @@ use Rattle.exports.proofs.walks.vektrid_walk_step.Tie as tie
 abbrev held : tie.Start → StepWords (ℕ × ℕ)
 held s = let a = s .args in step-words (now (a .next)) (now (a .left)) (now (a .given)) (now (a .index)) (now (a .x), now (a .y))
 
-pair-of-requires : tie.Need-pair-of-requires
-pair-of-requires c κs = search needs
+pair-answer-requires : tie.Need-pair-answer-requires
+pair-answer-requires c κs = search needs
 
 returns : tie.Need-returns
-returns c = let p = c .before .before in
-    let e = stops (p .before .before .args .words .now) (p .pair-of .ensures .0) _ (c .if1 .taken) in
-    (refused-answer e, refused-leaves e _ _)
+returns c =
+    let s = c .before .before .before in
+    step-refused visit (λ v. v .index) (λ v. (v .x, v .y)) (s .args .words .now) (s .args .sx) (s .args .sy) (held s) (c .before .pair-answer .ensures) (c .if1 .taken)
+
+load-requires : tie.Need-load-requires
+load-requires c κs = search needs
 
 step-requires : tie.Need-step-requires
 step-requires c κs = search needs
@@ -35,20 +36,30 @@ enum-told : tie.Need-enum-told
 enum-told c = search needs
 
 returns-2 : tie.Need-returns-2
-returns-2 c = let t = c .before .before .before in
-    let p = t .before .before .before .before .before .before in
-    let a = p .before .before .args in
-    step-ended visit (λ v. v .index) (λ v. (v .x, v .y)) (a .words .now) (a .sx) (a .sy) (held (p .before .before)) (p .pair-of .ensures)
-    (t .before .before .before .before .if1 .left) (t .step .ensures) (ap of-step (c .enum-told .given .1))
+returns-2 c =
+    let l = c .before .before .before .before .before in
+    let n = l .before .before .before in
+    let s = n .before .before .before in
+    step-ended visit (λ v. v .index) (λ v. (v .x, v .y)) (s .args .words .now) (s .args .sx) (s .args .sy) (held s) (n .before .pair-answer .ensures) (n .if1 .left)
+    (l .load .ensures .1) (c .before .before .before .step .ensures) (ap of-step (c .enum-told .given .1))
 
 returns-3 : tie.Need-returns-3
-returns-3 c = let t = c .before .before .before .before in
-    let p = t .before .before .before .before .before .before in
-    let a = p .before .before .args in
-    step-visited visit (λ v. v .index) (λ v. (v .x, v .y)) (a .words .now) (a .sx) (a .sy) (held (p .before .before)) (p .pair-of .ensures)
-    (t .before .before .before .before .if1 .left) (t .step .ensures) (ap of-step (c .before .step2 .given .1))
+returns-3 c =
+    let l = c .before .before .before .before .before .before in
+    let n = l .before .before .before in
+    let s = n .before .before .before in
+    step-visited visit (λ v. v .index) (λ v. (v .x, v .y)) (s .args .words .now) (s .args .sx) (s .args .sy) (held s) (n .before .pair-answer .ensures) (n .if1 .left)
+    (l .load .ensures .1) (c .before .before .before .before .step .ensures) (ap of-step (c .before .step2 .given .1))
 
 pub vektrid-walk-step-spec : {M : Type 1} → statement M
 vektrid-walk-step-spec =
     tie.close
-    (tie.spec pair-of-requires returns step-requires enum-known-step enum-told returns-2 returns-3)
+    (tie.spec
+    pair-answer-requires
+    returns
+    load-requires
+    step-requires
+    enum-known-step
+    enum-told
+    returns-2
+    returns-3)
