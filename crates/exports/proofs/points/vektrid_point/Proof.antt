@@ -26,8 +26,9 @@ returns-2 : tie.Need-returns-2
 returns-2 c =
     let l = c .before .before in
     let a = l .before .before .before .before .args in
-    let e = gives (a .words .now) (l .before .before .pair-answer .ensures) (l .before .if1 .left)
-    (λ P. point (sequence P (record { x = a .sx; y = a .sy })) (a .index)) (l .load .ensures .1) (c .point .ensures) in
+    let n = l .before .before .pair-answer .ensures in
+    let e = gives (a .words .now) n (l .before .if1 .left) (λ P. point (sequence P (record { x = a .sx; y = a .sy })) (a .index))
+    (l .load .ensures .1) (c .point .ensures) in
     (accepted-answer e, (accepted-hands e (λ p. p .0) _, accepted-hands e (λ p. p .1) _))
 
 pub vektrid-point-spec : {M : Type 1} → statement M

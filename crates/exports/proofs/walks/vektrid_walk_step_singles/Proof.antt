@@ -21,7 +21,8 @@ pair-answer-requires c κs = search needs
 returns : tie.Need-returns
 returns c =
     let s = c .before .before .before in
-    step-refused visit-singles (λ v. v .index) (λ v. v .at) (s .args .words .now) (s .args .sx) (s .args .sy) (held s) (c .before .pair-answer .ensures) (c .if1 .taken)
+    step-refused visit-singles (λ v. v .index) (λ v. v .at) (s .args .words .now) (s .args .sx) (s .args .sy) (held s)
+    (c .before .pair-answer .ensures) (c .if1 .taken)
 
 load-requires : tie.Need-load-requires
 load-requires c κs = search needs
@@ -37,19 +38,22 @@ enum-told c = search needs
 
 returns-2 : tie.Need-returns-2
 returns-2 c =
-    let l = c .before .before .before .before .before in
+    let t = c .before .before .before in
+    let l = t .before .before in
     let n = l .before .before .before in
     let s = n .before .before .before in
-    step-ended visit-singles (λ v. v .index) (λ v. v .at) (s .args .words .now) (s .args .sx) (s .args .sy) (held s) (n .before .pair-answer .ensures) (n .if1 .left)
-    (l .load .ensures .1) (c .before .before .before .step-singles .ensures) (ap of-singles-step (c .enum-told .given .1))
+    step-ended visit-singles (λ v. v .index) (λ v. v .at) (s .args .words .now) (s .args .sx) (s .args .sy) (held s)
+    (n .before .pair-answer .ensures) (n .if1 .left) (l .load .ensures .1) (t .step-singles .ensures) (ap of-singles-step (c .enum-told .given .1))
 
 returns-3 : tie.Need-returns-3
 returns-3 c =
-    let l = c .before .before .before .before .before .before .before in
+    let t = c .before .before .before .before .before in
+    let l = t .before .before in
     let n = l .before .before .before in
     let s = n .before .before .before in
-    step-visited visit-singles (λ v. v .index) (λ v. v .at) (s .args .words .now) (s .args .sx) (s .args .sy) (held s) (n .before .pair-answer .ensures) (n .if1 .left)
-    (l .load .ensures .1) (c .before .before .before .before .before .step-singles .ensures) (ap of-singles-step (c .before .before .step .given .1))
+    step-visited visit-singles (λ v. v .index) (λ v. v .at) (s .args .words .now) (s .args .sx) (s .args .sy) (held s)
+    (n .before .pair-answer .ensures) (n .if1 .left) (l .load .ensures .1) (t .step-singles .ensures)
+    (ap of-singles-step (c .before .before .step .given .1))
 
 pub vektrid-walk-step-singles-spec : {M : Type 1} → statement M
 vektrid-walk-step-singles-spec =
