@@ -196,4 +196,8 @@ putting-more {L} {n} {words} {indexes} now room word index e f = record {
         (getD-set-other words n c word 0 other ∙ now .columns c h .0, getD-set-other indexes n c index 0 other ∙ now .columns c h .1)
     go c (inr h) l =
         let same : c ≡ n = omega arith in
-        rw same (getD-set-same words n word 0 (omega (arith, now .long-words)) ∙ e, getD-set-same indexes n index 0 (omega (arith, now .long-indexes)) ∙ f)
+        rw same (
+          getD-set-same words n word 0 (omega (arith, now .long-words)) ∙ e,
+          getD-set-same indexes n index 0
+              (omega (arith, now .long-indexes)) ∙ f,
+        )

@@ -30,13 +30,15 @@ grouped c = let d = c .before .before .before .before .before in putMid (head d)
 abbrev of-axis : tie.After-singly → ℕ → ℕ
 of-axis c = let a = c .before .before .before .before .before .args in shifted-coordinate (a .columns) (a .shift)
 
-head-filled : (c : tie.After-singly) → let a = c .before .before .before .before .before .args in Filled (of-axis c) (a .start) (head c) (a .out .now) (headed c)
+head-filled : (c : tie.After-singly) → let a = c .before .before .before .before .before .args in
+    Filled (of-axis c) (a .start) (head c) (a .out .now) (headed c)
 head-filled c =
     let a = c .before .before .before .before .before .args in
     filled-lent filled-none (head c) (head c) (a .start) (c .singly .last .1 .1 .0) (omega arith) (c .singly .ensures) (omega arith)
     (c .before .before .ahead .ensures .0)
 
-groups-filled : (c : tie.After-in-groups) → let d = c .before .before .before .before .before in let a = d .before .before .before .before .before .args in
+groups-filled : (c : tie.After-in-groups) → let d = c .before .before .before .before .before in
+    let a = d .before .before .before .before .before .args in
     Filled (of-axis d) (a .start) (whole d) (a .out .now) (grouped c)
 groups-filled c =
     let d = c .before .before .before .before .before in
@@ -60,7 +62,8 @@ slice-relend-prefix-singly : tie.Need-slice-relend-prefix-singly
 slice-relend-prefix-singly c = search needs
 
 slice-aggregate-singly : tie.Need-slice-aggregate-singly
-slice-aggregate-singly c = sym (length-take-le (c .before .ahead .result) (c .before .before .before .before .args .out .now) (c .before .ahead .ensures .0))
+slice-aggregate-singly c = sym (length-take-le (c .before .ahead .result) (c .before .before .before .before .args .out .now)
+    (c .before .ahead .ensures .0))
 
 singly-requires : tie.Need-singly-requires
 singly-requires c κs =
@@ -97,8 +100,14 @@ part-in-groups-end c = search needs
 in-groups-requires : tie.Need-in-groups-requires
 in-groups-requires c κs =
     let n = group-room (c .before .before .before .before) in
-    let a = c .before .before .before .before .before .before .ahead .ensures in
-    ((c .before .before .before .before .before .before .before .prefixes .ensures, omega (arith, n, c .before .before .before .before .before .before .before .before .before .pre, a .0)), (a .1 (c .before .if1 .taken), omega (arith, n)))
+    let a = c .before .before .before .before .before .before .ahead .ensures in (
+      (
+        c .before .before .before .before .before .before .before .prefixes .ensures,
+        omega
+            (arith, n, c .before .before .before .before .before .before .before .before .before .pre, a .0),
+      ),
+      (a .1 (c .before .if1 .taken), omega (arith, n)),
+    )
 
 cast-singly : tie.Need-cast-singly
 cast-singly c = search needs
@@ -129,7 +138,8 @@ returns c =
     let d = c .before .before .before .before .before .before .before .before .before .before .before .before in
     let now = groups-filled (c .before .before .before .before .before .before .before) in
     let n = length (d .before .before .before .before .before .args .out .now) in
-    filled-all (filled-lent now (length (grouped (c .before .before .before .before .before .before .before)) - whole d) n (d .before .before .before .before .before .args .start + whole d) (c .before .before .singly2 .last .1 .1 .0) refl
+    filled-all (filled-lent now (length (grouped (c .before .before .before .before .before .before .before)) - whole d) n
+    (d .before .before .before .before .before .args .start + whole d) (c .before .before .singly2 .last .1 .1 .0) refl
     (c .before .before .singly2 .ensures) (omega (arith, now .long, d .before .before .ahead .ensures .0)) (omega arith)) refl
 
 same-length-2 : tie.Need-same-length-2
@@ -142,7 +152,8 @@ same-length-3 : tie.Need-same-length-3
 same-length-3 c = search needs
 
 returns-3 : tie.Need-returns-3
-returns-3 c = filled-all (head-filled (c .before .before .before)) (omega (arith, c .if1 .left, c .before .before .before .before .before .ahead .ensures .0))
+returns-3 c = filled-all (head-filled (c .before .before .before))
+    (omega (arith, c .if1 .left, c .before .before .before .before .before .ahead .ensures .0))
 
 pub coordinates-spec : {M : Type 1} → statement M
 coordinates-spec =

@@ -25,10 +25,10 @@ loop-holds : tie.Need-loop-holds Inv-loop μ-loop
 loop-holds c = (along-none (c .coordinate .ensures), omega arith)
 
 add-put-group : tie.Need-add-put-group Inv-loop μ-loop
-add-put-group c = record { fits = omega (arith, c .loop-test .taken, c .before .loop .inv .0 .filled .long, c .before .before .before .before .before .before .pre .0 .1, c .before .loop .inv .1, c .before .before .before .before .before .before .pre .1 .1) }
+add-put-group c = omega arith
 
 mul-put-group : tie.Need-mul-put-group Inv-loop μ-loop
-mul-put-group c = record { fits = omega (arith, c .loop-test .taken, c .before .loop .inv .0 .filled .long, c .before .before .before .before .before .before .pre .0 .1, c .before .loop .inv .1, c .before .before .before .before .before .before .pre .1 .1) }
+mul-put-group c = omega arith
 
 sub-put-group : tie.Need-sub-put-group Inv-loop μ-loop
 sub-put-group c = omega arith
@@ -43,16 +43,24 @@ put-group-requires : tie.Need-put-group-requires Inv-loop μ-loop
 put-group-requires c κs =
     let l = c .before .before .loop in
     length-take-le (l .k + 64 - l .k) (drop (l .k) (l .out))
-    (omega (arith, length-drop (l .k) (l .out), c .before .loop-test .taken, l .inv .0 .filled .long, l .inv .1, c .before .before .before .before .before .before .before .pre .1 .1)) ∙ omega arith
+    (omega (
+      arith,
+      length-drop (l .k) (l .out),
+      c .before .loop-test .taken,
+      l .inv .0 .filled .long,
+      l .inv .1,
+      c .before .before .before .before
+          .before .before .before .pre .1 .1,
+    )) ∙ omega arith
 
 add-k : tie.Need-add-k Inv-loop μ-loop
-add-k c = record { fits = omega (arith, c .before .before .before .before .loop-test .taken, c .before .before .before .before .before .loop .inv .0 .filled .long, c .before .before .before .before .before .before .before .before .before .before .pre .0 .1, c .before .before .before .before .before .loop .inv .1, c .before .before .before .before .before .before .before .before .before .before .pre .1 .1) }
+add-k c = omega arith
 
 cast-at : tie.Need-cast-at Inv-loop μ-loop
-cast-at c = record { fits = omega (arith, c .before .before .before .before .before .loop-test .taken, c .before .before .before .before .before .before .loop .inv .0 .filled .long, c .before .before .before .before .before .before .before .before .before .before .before .pre .0 .1, c .before .before .before .before .before .before .loop .inv .1, c .before .before .before .before .before .before .before .before .before .before .before .pre .1 .1) }
+cast-at c = omega arith
 
 add-at : tie.Need-add-at Inv-loop μ-loop
-add-at c = record { fits = omega (arith, c .before .before .before .before .before .loop-test .taken, c .before .before .before .before .before .before .loop .inv .0 .filled .long, c .before .before .before .before .before .before .before .before .before .before .before .pre .0 .1, c .before .before .before .before .before .before .loop .inv .1, c .before .before .before .before .before .before .before .before .before .before .before .pre .1 .1) }
+add-at c = omega arith
 
 array-read-word : tie.Need-array-read-word Inv-loop μ-loop
 array-read-word c = omega arith
@@ -67,18 +75,25 @@ element-copy-out-word : tie.Need-element-copy-out-word Inv-loop μ-loop
 element-copy-out-word c = c .turned .ensures .1
 
 loop-less : tie.Need-loop-less Inv-loop μ-loop
-loop-less c = omega (arith, c .before .before .before .before .before .before .before .loop-test .taken, c .before .before .before .before .before .before .before .before .loop .inv .0 .filled .long)
+loop-less c = omega (
+  arith,
+  c .before .before .before .before .before .before .before .loop-test .taken,
+  c .before .before .before .before .before
+      .before .before .before .loop .inv .0 .filled .long,
+)
 
 loop-again : tie.Need-loop-again Inv-loop μ-loop
 loop-again c =
     let l = c .before .before .before .before .before .before .before .before .loop in
     let a = c .before .before .before .before .before .before .before .before .before .before .before .before .before .args in
     let p = c .before .before .before .before .before .before .before .before .before .before .before .before .before .pre in
-    let here : l .k < length (a .out .now) = omega (arith, c .before .before .before .before .before .before .before .loop-test .taken, l .inv .0 .filled .long) in
+    let here : l .k < length (a .out .now) = omega
+    (arith, c .before .before .before .before .before .before .before .loop-test .taken, l .inv .0 .filled .long) in
     let low = c .before .before .before .before .before .before .before .before .before .before .before .first-group in (
       record {
         within = omega (arith, here, l .inv .1, p .1 .1);
-        filled = along-group (l .inv .0) (low .result) (low .ensures) (p .1 .0) (l .inv .1) here (l .k + 64 - l .k) (c .before .before .before .before .before .put-group .last .1 .1 .0)
+        filled = along-group (l .inv .0) (low .result) (low .ensures) (p .1 .0) (l .inv .1) here (l .k + 64 - l .k)
+            (c .before .before .before .before .before .put-group .last .1 .1 .0)
             (omega arith) (c .before .before .before .before .before .put-group .ensures) (p .1 .1);
         word-is = λ more. group-next (l .inv .0) (low .result) (low .ensures) (p .1 .0) (l .inv .1) here (a .t1 .sums) (p .0 .0)
             (c .before .turned .result) (c .before .turned .ensures .0) (omega (arith, more, p .0 .1));
@@ -87,7 +102,12 @@ loop-again c =
     )
 
 loop-less-2 : tie.Need-loop-less-2 Inv-loop μ-loop
-loop-less-2 c = omega (arith, c .before .before .before .before .before .loop-test .taken, c .before .before .before .before .before .before .loop .inv .0 .filled .long)
+loop-less-2 c = omega (
+  arith,
+  c .before .before .before .before .before .loop-test .taken,
+  c .before .before .before .before .before .before .loop
+      .inv .0 .filled .long,
+)
 
 loop-again-2 : tie.Need-loop-again-2 Inv-loop μ-loop
 loop-again-2 c =
@@ -96,7 +116,8 @@ loop-again-2 c =
     let p = c .before .before .before .before .before .before .before .before .before .before .before .pre in
     let here : l .k < length (a .out .now) = omega (arith, c .before .before .before .before .before .loop-test .taken, l .inv .0 .filled .long) in
     let low = c .before .before .before .before .before .before .before .before .before .first-group in
-    let fill = along-group (l .inv .0) (low .result) (low .ensures) (p .1 .0) (l .inv .1) here (l .k + 64 - l .k) (c .before .before .before .put-group .last .1 .1 .0)
+    let fill = along-group (l .inv .0) (low .result) (low .ensures) (p .1 .0) (l .inv .1) here (l .k + 64 - l .k)
+    (c .before .before .before .put-group .last .1 .1 .0)
     (omega arith) (c .before .before .before .put-group .ensures) (p .1 .1) in (
       record {
         within = omega (arith, here, l .inv .1, p .1 .1);

@@ -28,7 +28,14 @@ room : (c : tie.Then1 Inv-loop μ-loop) → let at = c .before .before .before .
 room c =
     let l = c .before .before .loop in
     let more : c .before .before .before .before .before .before .args .start + (l .k + 1) < 2 ^ 32 =
-    omega (arith, c .if1 .taken, length-set (l .out) (l .k) (l .word), l .inv .filled .long, c .before .before .before .before .before .before .pre .1) in
+    omega (
+      arith,
+      c .if1 .taken,
+      length-set (l .out) (l .k) (l .word),
+      l .inv .filled .long,
+      c .before .before .before .before .before .before
+          .pre .1,
+    ) in
     (record { fits = omega (arith, more) }, record { fits = omega (arith, more) })
 
 coordinate-requires : tie.Need-coordinate-requires Inv-loop μ-loop
@@ -62,7 +69,8 @@ element-copy-out-word : tie.Need-element-copy-out-word Inv-loop μ-loop
 element-copy-out-word c = c .turned .ensures .1
 
 loop-less : tie.Need-loop-less Inv-loop μ-loop
-loop-less c = let here = c .before .before .before .loop-test .taken in let long = c .before .before .before .before .loop .inv .filled .long in omega arith
+loop-less c = let here = c .before .before .before .loop-test .taken in let long = c .before .before .before .before .loop .inv .filled .long in
+    omega arith
 
 loop-again : tie.Need-loop-again Inv-loop μ-loop
 loop-again c =
@@ -72,8 +80,10 @@ loop-again c =
       within = omega arith;
       filled = along-one (l .inv) here;
       word-is = λ more. following (a .t1 .columns) (a .t1 .shift) (a .start) (l .k)
-          (next-word (a .t1 .columns) (a .t1 .shift) (a .t1 .sums) (c .before .before .before .before .before .before .before .before .pre .0) (l .word) (a .start + l .k) (c .before .turned .result)
-          (c .before .turned .ensures .0 ∙ ap (trailingZeros 32) (omega arith)) (omega (arith, c .before .before .before .before .before .before .before .before .pre .1)) (l .inv .word-is here));
+          (next-word (a .t1 .columns) (a .t1 .shift) (a .t1 .sums) (c .before .before .before .before .before .before .before .before .pre .0)
+          (l .word) (a .start + l .k) (c .before .turned .result)
+          (c .before .turned .ensures .0 ∙ ap (trailingZeros 32) (omega arith))
+          (omega (arith, c .before .before .before .before .before .before .before .before .pre .1)) (l .inv .word-is here));
     }
 
 loop-less-2 : tie.Need-loop-less-2 Inv-loop μ-loop

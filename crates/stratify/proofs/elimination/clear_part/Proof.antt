@@ -16,40 +16,41 @@ abbrev μ-loop : tie.MeasureT-loop
 μ-loop words₀ indexes₀ from by along at₀ words indexes at = from + 4 - at
 
 loop-holds : tie.Need-loop-holds Inv-loop μ-loop
-loop-holds c = let s = c .before .before in (omega arith, omega arith, clearing-none (s .args .by) (s .args .along) (s .args .from) _ _ (s .pre .2 .0) (s .pre .2 .1))
+loop-holds c = let s = c .before .before in
+    (omega arith, omega arith, clearing-none (s .args .by) (s .args .along) (s .args .from) _ _ (s .pre .2 .0) (s .pre .2 .1))
 
 add-loop : tie.Need-add-loop Inv-loop μ-loop
-add-loop c = let r = c .before .before .before .pre .1 in omega arith
+add-loop c = omega arith
 
 mul-word : tie.Need-mul-word Inv-loop μ-loop
-mul-word c = let w = c .before .loop .inv .2 .long-words in let i = c .before .loop .inv .2 .long-indexes in let r = c .before .before .before .before .pre .1 in omega arith
+mul-word c = omega arith
 
 slice-read-word : tie.Need-slice-read-word Inv-loop μ-loop
-slice-read-word c = let w = c .before .before .loop .inv .2 .long-words in let i = c .before .before .loop .inv .2 .long-indexes in let r = c .before .before .before .before .before .pre .1 in omega arith
+slice-read-word c = omega arith
 
 spread-requires : tie.Need-spread-requires Inv-loop μ-loop
 spread-requires c κs = c .before .before .before .before .before .pre .0
 
 mul-words : tie.Need-mul-words Inv-loop μ-loop
-mul-words c = let w = c .before .before .before .loop .inv .2 .long-words in let i = c .before .before .before .loop .inv .2 .long-indexes in let r = c .before .before .before .before .before .before .pre .1 in omega arith
+mul-words c = omega arith
 
 slice-write-words : tie.Need-slice-write-words Inv-loop μ-loop
-slice-write-words c = let w = c .before .before .before .loop .inv .2 .long-words in let i = c .before .before .before .loop .inv .2 .long-indexes in let r = c .before .before .before .before .before .before .pre .1 in omega arith
+slice-write-words c = omega arith
 
 mul-index : tie.Need-mul-index Inv-loop μ-loop
-mul-index c = let w = c .before .before .before .loop .inv .2 .long-words in let i = c .before .before .before .loop .inv .2 .long-indexes in let r = c .before .before .before .before .before .before .pre .1 in omega arith
+mul-index c = omega arith
 
 slice-read-index : tie.Need-slice-read-index Inv-loop μ-loop
-slice-read-index c = let w = c .before .before .before .before .loop .inv .2 .long-words in let i = c .before .before .before .before .loop .inv .2 .long-indexes in let r = c .before .before .before .before .before .before .before .pre .1 in omega arith
+slice-read-index c = omega arith
 
 mul-indexes : tie.Need-mul-indexes Inv-loop μ-loop
-mul-indexes c = let w = c .before .before .before .before .loop .inv .2 .long-words in let i = c .before .before .before .before .loop .inv .2 .long-indexes in let r = c .before .before .before .before .before .before .before .pre .1 in omega arith
+mul-indexes c = omega arith
 
 slice-write-indexes : tie.Need-slice-write-indexes Inv-loop μ-loop
-slice-write-indexes c = let w = c .before .before .before .before .loop .inv .2 .long-words in let i = c .before .before .before .before .loop .inv .2 .long-indexes in let r = c .before .before .before .before .before .before .before .pre .1 in omega arith
+slice-write-indexes c = omega arith
 
 add-at : tie.Need-add-at Inv-loop μ-loop
-add-at c = let w = c .before .before .before .before .loop .inv .2 .long-words in let i = c .before .before .before .before .loop .inv .2 .long-indexes in let r = c .before .before .before .before .before .before .before .pre .1 in omega arith
+add-at c = omega arith
 
 loop-less : tie.Need-loop-less Inv-loop μ-loop
 loop-less c = omega arith

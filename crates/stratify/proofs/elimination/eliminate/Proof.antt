@@ -37,16 +37,16 @@ put-columns-requires : tie.Need-put-columns-requires Inv-loop μ-loop
 put-columns-requires c κs = (c .before .before .pre, (refl, refl))
 
 mul-words : tie.Need-mul-words Inv-loop μ-loop
-mul-words c = let f = c .before .before .before .before .before .pre .fits in omega arith
+mul-words c = omega arith
 
 array-write-words : tie.Need-array-write-words Inv-loop μ-loop
-array-write-words c = let f = c .before .before .before .before .before .pre .fits in omega arith
+array-write-words c = omega arith
 
 mul-indexes : tie.Need-mul-indexes Inv-loop μ-loop
-mul-indexes c = let f = c .before .before .before .before .before .pre .fits in omega arith
+mul-indexes c = omega arith
 
 array-write-indexes : tie.Need-array-write-indexes Inv-loop μ-loop
-array-write-indexes c = let f = c .before .before .before .before .before .pre .fits in omega arith
+array-write-indexes c = omega arith
 
 -- the arrays as the loop begins
 start : (c : tie.After-put-columns Inv-loop μ-loop) → let s = c .before .before .before in
@@ -55,7 +55,8 @@ start : (c : tie.After-put-columns Inv-loop μ-loop) → let s = c .before .befo
 start c =
     let p = c .put-columns in
     let f = c .before .before .before .pre .fits in
-    begun (c .before .before .before .args .asked) (p .last .1 .1 .1 .0) (p .last .1 .1 .1 .1 .0) (p .ensures) (omega (arith, f, p .kept .1 .1 .1 .0)) (omega (arith, f, p .kept .1 .1 .1 .1 .0))
+    begun (c .before .before .before .args .asked) (p .last .1 .1 .1 .0) (p .last .1 .1 .1 .1 .0) (p .ensures)
+    (omega (arith, f, p .kept .1 .1 .1 .0)) (omega (arith, f, p .kept .1 .1 .1 .1 .0))
 
 loop-holds : tie.Need-loop-holds Inv-loop μ-loop
 loop-holds c =
@@ -70,16 +71,16 @@ loop-holds c =
     )
 
 mul-word : tie.Need-mul-word Inv-loop μ-loop
-mul-word c = let f = c .before .before .before .before .before .before .before .pre .fits in let w = c .before .loop .inv .1 in omega arith
+mul-word c = omega arith
 
 array-read-word : tie.Need-array-read-word Inv-loop μ-loop
-array-read-word c = let f = c .before .before .before .before .before .before .before .pre .fits in let w = c .before .loop .inv .1 in omega arith
+array-read-word c = omega arith
 
 mul-index : tie.Need-mul-index Inv-loop μ-loop
-mul-index c = let f = c .before .before .before .before .before .before .before .pre .fits in let w = c .before .loop .inv .1 in omega arith
+mul-index c = omega arith
 
 array-read-index : tie.Need-array-read-index Inv-loop μ-loop
-array-read-index c = let f = c .before .before .before .before .before .before .before .pre .fits in let w = c .before .loop .inv .1 in omega arith
+array-read-index c = omega arith
 
 returns : tie.Need-returns Inv-loop μ-loop
 returns c =
@@ -96,10 +97,12 @@ slice-aggregate-clear-2 : tie.Need-slice-aggregate-clear-2 Inv-loop μ-loop
 slice-aggregate-clear-2 c = sym (c .before .before .before .before .loop .inv .1 .1)
 
 clear-requires : tie.Need-clear-requires Inv-loop μ-loop
-clear-requires c κs = let l = c .before .before .before .before .loop in let f = c .before .before .before .before .before .before .before .before .before .before .pre .fits in (c .before .before .if1 .left, omega arith, omega arith, l .inv .1)
+clear-requires c κs = let l = c .before .before .before .before .loop in
+    let f = c .before .before .before .before .before .before .before .before .before .before .pre .fits in
+    (c .before .before .if1 .left, omega arith, omega arith, l .inv .1)
 
 add-c : tie.Need-add-c Inv-loop μ-loop
-add-c c = let f = c .before .before .before .before .before .before .before .before .before .before .before .before .before .pre .fits in omega arith
+add-c c = omega arith
 
 loop-less : tie.Need-loop-less Inv-loop μ-loop
 loop-less c = omega arith
@@ -111,21 +114,23 @@ loop-again c =
     let f = c .before .before .before .before .before .before .before .before .before .before .before .before .before .pre .fits in (
       omega arith,
       (p .kept .0 ∙ l .inv .1 .0, p .kept .1 .0 ∙ l .inv .1 .1),
-      λ L A b. pending-more A (l .inv .2 L A b) (omega arith) (p .last .0) (p .last .1 .0) (c .before .before .before .before .before .if1 .left) (p .ensures) (omega arith),
+      λ L A b. pending-more A (l .inv .2 L A b) (omega arith) (p .last .0) (p .last .1 .0) (c .before .before .before .before .before .if1 .left)
+          (p .ensures) (omega arith),
     )
 
 mul-t16 : tie.Need-mul-t16 Inv-loop μ-loop
-mul-t16 c = let f = c .before .before .before .before .before .before .before .pre .fits in let w = c .before .loop .inv .1 in omega arith
+mul-t16 c = omega arith
 
 array-read-t35 : tie.Need-array-read-t35 Inv-loop μ-loop
-array-read-t35 c = let f = c .before .before .before .before .before .before .before .pre .fits in let w = c .before .loop .inv .1 in omega arith
+array-read-t35 c = omega arith
 
 returns-2 : tie.Need-returns-2 Inv-loop μ-loop
 returns-2 c =
     let s = c .before .before .before .before .before .before .before in
     let l = c .before .loop in
     let A = interval-additive (s .pre) in
-    eliminates-basis (s .pre) (s .args .asked) (l .c) (l .words) (l .indexes) (omega arith) (l .inv .2 (L s) A (start (c .before .before .before .before)))
+    eliminates-basis (s .pre) (s .args .asked) (l .c) (l .words) (l .indexes) (omega arith)
+    (l .inv .2 (L s) A (start (c .before .before .before .before)))
 
 pub eliminate-spec : {M : Type 1} → statement M
 eliminate-spec =

@@ -32,28 +32,28 @@ loop-holds : tie.Need-loop-holds Inv-loop μ-loop
 loop-holds c = (omega arith, putting-none _ _ _ (c .before .before .before .before .pre .1 .0) (c .before .before .before .before .pre .1 .1))
 
 mul-top : tie.Need-mul-top Inv-loop μ-loop
-mul-top c = let w = c .before .loop .inv .1 .long-words in let i = c .before .loop .inv .1 .long-indexes in let f = c .before .before .before .before .before .before .pre .0 .fits in let d = c .before .before .before .before .before .before .pre .0 .wide in omega arith
+mul-top c = omega arith
 
 array-read-top : tie.Need-array-read-top Inv-loop μ-loop
-array-read-top c = let w = c .before .loop .inv .1 .long-words in let i = c .before .loop .inv .1 .long-indexes in let f = c .before .before .before .before .before .before .pre .0 .fits in let d = c .before .before .before .before .before .before .pre .0 .wide in omega arith
+array-read-top c = omega arith
 
 top-requires : tie.Need-top-requires Inv-loop μ-loop
-top-requires c κs = let w = c .before .loop .inv .1 .long-words in let i = c .before .loop .inv .1 .long-indexes in let f = c .before .before .before .before .before .before .pre .0 .fits in let d = c .before .before .before .before .before .before .pre .0 .wide in omega arith
+top-requires c κs = omega arith
 
 mul-top-2 : tie.Need-mul-top-2 Inv-loop μ-loop
-mul-top-2 c = let w = c .before .before .loop .inv .1 .long-words in let i = c .before .before .loop .inv .1 .long-indexes in let f = c .before .before .before .before .before .before .before .pre .0 .fits in let d = c .before .before .before .before .before .before .before .pre .0 .wide in omega arith
+mul-top-2 c = omega arith
 
 array-read-top-2 : tie.Need-array-read-top-2 Inv-loop μ-loop
-array-read-top-2 c = let w = c .before .before .loop .inv .1 .long-words in let i = c .before .before .loop .inv .1 .long-indexes in let f = c .before .before .before .before .before .before .before .pre .0 .fits in let d = c .before .before .before .before .before .before .before .pre .0 .wide in omega arith
+array-read-top-2 c = omega arith
 
 sub-top : tie.Need-sub-top Inv-loop μ-loop
-sub-top c = let w = c .before .before .loop .inv .1 .long-words in let i = c .before .before .loop .inv .1 .long-indexes in let f = c .before .before .before .before .before .before .before .pre .0 .fits in let d = c .before .before .before .before .before .before .before .pre .0 .wide in omega arith
+sub-top c = omega arith
 
 top-requires-2 : tie.Need-top-requires-2 Inv-loop μ-loop
-top-requires-2 c κs = let w = c .before .before .loop .inv .1 .long-words in let i = c .before .before .loop .inv .1 .long-indexes in let f = c .before .before .before .before .before .before .before .pre .0 .fits in let d = c .before .before .before .before .before .before .before .pre .0 .wide in omega arith
+top-requires-2 c κs = omega arith
 
 sub-join : tie.Need-sub-join Inv-loop μ-loop
-sub-join c = let w = c .before .before .before .loop .inv .1 .long-words in let i = c .before .before .before .loop .inv .1 .long-indexes in let f = c .before .before .before .before .before .before .before .before .pre .0 .fits in let d = c .before .before .before .before .before .before .before .before .pre .0 .wide in omega arith
+sub-join c = omega arith
 
 join-requires : tie.Need-join-requires Inv-loop μ-loop
 join-requires c κs =
@@ -65,28 +65,28 @@ join-requires c κs =
     (omega arith, omega arith)
 
 mul-words : tie.Need-mul-words Inv-loop μ-loop
-mul-words c = let w = c .before .before .before .before .loop .inv .1 .long-words in let i = c .before .before .before .before .loop .inv .1 .long-indexes in let f = c .before .before .before .before .before .before .before .before .before .pre .0 .fits in let d = c .before .before .before .before .before .before .before .before .before .pre .0 .wide in omega arith
+mul-words c = omega arith
 
 slice-write-words : tie.Need-slice-write-words Inv-loop μ-loop
-slice-write-words c = let w = c .before .before .before .before .loop .inv .1 .long-words in let i = c .before .before .before .before .loop .inv .1 .long-indexes in let f = c .before .before .before .before .before .before .before .before .before .pre .0 .fits in let d = c .before .before .before .before .before .before .before .before .before .pre .0 .wide in omega arith
+slice-write-words c = omega arith
 
 cast-indexes : tie.Need-cast-indexes Inv-loop μ-loop
-cast-indexes c = let w = c .before .before .before .before .loop .inv .1 .long-words in let i = c .before .before .before .before .loop .inv .1 .long-indexes in let f = c .before .before .before .before .before .before .before .before .before .pre .0 .fits in let d = c .before .before .before .before .before .before .before .before .before .pre .0 .wide in omega arith
+cast-indexes c = omega arith
 
 shl-indexes : tie.Need-shl-indexes Inv-loop μ-loop
-shl-indexes c = let w = c .before .before .before .before .loop .inv .1 .long-words in let i = c .before .before .before .before .loop .inv .1 .long-indexes in let f = c .before .before .before .before .before .before .before .before .before .pre .0 .fits in let d = c .before .before .before .before .before .before .before .before .before .pre .0 .wide in omega arith
+shl-indexes c = omega arith
 
 mul-indexes : tie.Need-mul-indexes Inv-loop μ-loop
-mul-indexes c = let w = c .before .before .before .before .loop .inv .1 .long-words in let i = c .before .before .before .before .loop .inv .1 .long-indexes in let f = c .before .before .before .before .before .before .before .before .before .pre .0 .fits in let d = c .before .before .before .before .before .before .before .before .before .pre .0 .wide in omega arith
+mul-indexes c = omega arith
 
 slice-write-indexes : tie.Need-slice-write-indexes Inv-loop μ-loop
-slice-write-indexes c = let w = c .before .before .before .before .loop .inv .1 .long-words in let i = c .before .before .before .before .loop .inv .1 .long-indexes in let f = c .before .before .before .before .before .before .before .before .before .pre .0 .fits in let d = c .before .before .before .before .before .before .before .before .before .pre .0 .wide in omega arith
+slice-write-indexes c = omega arith
 
 add-c : tie.Need-add-c Inv-loop μ-loop
-add-c c = let w = c .before .before .before .before .loop .inv .1 .long-words in let i = c .before .before .before .before .loop .inv .1 .long-indexes in let f = c .before .before .before .before .before .before .before .before .before .pre .0 .fits in let d = c .before .before .before .before .before .before .before .before .before .pre .0 .wide in omega arith
+add-c c = omega arith
 
 loop-less : tie.Need-loop-less Inv-loop μ-loop
-loop-less c = let w = c .before .before .before .before .loop .inv .1 .long-words in let i = c .before .before .before .before .loop .inv .1 .long-indexes in let f = c .before .before .before .before .before .before .before .before .before .pre .0 .fits in let d = c .before .before .before .before .before .before .before .before .before .pre .0 .wide in omega arith
+loop-less c = omega arith
 
 loop-again : tie.Need-loop-again Inv-loop μ-loop
 loop-again c =
@@ -101,7 +101,8 @@ same-length-2 : tie.Need-same-length-2 Inv-loop μ-loop
 same-length-2 c = c .before .loop .inv .1 .long-indexes ∙ sym (c .before .before .before .before .before .before .pre .1 .1)
 
 returns : tie.Need-returns Inv-loop μ-loop
-returns c = let l = c .before .loop in let e : l .c ≡ c .before .before .before .before .before .before .args .m = omega arith in rw e at (l .inv .1) .columns
+returns c = let l = c .before .loop in let e : l .c ≡ c .before .before .before .before .before .before .args .m = omega arith in
+    rw e at (l .inv .1) .columns
 
 pub put-columns-spec : {M : Type 1} → statement M
 put-columns-spec =
