@@ -1,3 +1,4 @@
 pub mod Answers
 pub mod Theorem
 pub mod Basis
+pub mod Minors

@@ -3,6 +3,7 @@
 mod bits;
 mod cells;
 mod elimination;
+mod minors;
 mod shapes;
 
 pub use cells::Block;

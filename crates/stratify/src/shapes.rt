@@ -1,22 +1,23 @@
 // The check of generator matrices: the shapes in their order, up to the first that is no net.
 ghost use mathlib.Core.Path.{_≡_};
-ghost use Prim.Native.Nat.{_≤_};
+ghost use Prim.Native.Nat.{_+_, _≤_, _<_};
 ghost use Rattle.net.specs.Generators.{Valid};
-ghost use Rattle.net.specs.Check.{check};
+ghost use Rattle.net.specs.Check.{check, Cleared};
 ghost use Rattle.refusal.specs.Refusal.{of-judgement};
 ghost use Rattle.plan.specs.Pair.{generators, largest-level};
 ghost use Rattle.stratify.specs.Answers.{of-verdict, check-outcome};
 use crate::elimination::eliminate;
+use crate::minors::sure;
 use plan::Plan;
 use refusal::Judgement;
 use refusal::Refusal;
 
-// The first bad shape, m rising and then a rising.
-fn scan(plan: Plan, level: u32) -> Judgement
-    requires { ⌜ Valid (generators plan) × (level ≤ largest-level) ⌝ }
+// The first bad shape, m rising and then a rising, where no size below `from` has one.
+fn scan(plan: Plan, level: u32, from: u32) -> Judgement
+    requires { ⌜ Valid (generators plan) × (level ≤ largest-level) × (0 < from) × (from ≤ level + 1) × Cleared (generators plan) from 0 ⌝ }
     ensures { λ r. ⌜ of-judgement r ≡ of-verdict (check (generators plan) level) ⌝ }
 {
-    let mut m = 1u32;
+    let mut m = from;
     let mut a = 0u32;
     while m <= level {
         let e = eliminate(plan, m, a, 0);
@@ -49,5 +50,6 @@ pub fn check(words: &[u32], level: u32) -> Judgement
     if Plan::unknown_level(level) {
         return Judgement::Refused(Refusal::Level);
     }
-    scan(loaded.plan, level)
+    let plan = loaded.plan;
+    scan(plan, level, sure(plan, level))
 }

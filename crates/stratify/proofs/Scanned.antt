@@ -1,0 +1,94 @@
+-- The fast scan, one a after the other: what stands when a rows of X are reduced. Assumes nothing.
+use mathlib.Core.Path.{_≡_, refl, sym, ap, subst, _∙_}
+use mathlib.Core.Logic.{_⊎_, inl, inr}
+use mathlib.Core.List.{List}
+use Prim.Native.Nat.{ℕ, suc, _+_, _-_, _≤_, _<_}
+use native.Mathlib.Omega.{arith}
+use borrow.Author.Tests.{lt-ltb, le-ltb}
+use lib.ListN.{getD}
+use Rattle.digits.specs.Digits.{digit}
+use Rattle.linear.proofs.Cases.{lt-or-ge}
+use Rattle.net.specs.Generators.{Generators, entry}
+use Rattle.net.specs.Shape.{matrix}
+use Rattle.net.specs.Check.{Cleared}
+use Rattle.plan.specs.Pair.{pair}
+use Rattle.stratify.specs.Minors.{AllCleared, Left, Lefts, Pivots, Reaches, AreRows}
+use Rattle.stratify.proofs.Pivots.{left-none, left-next, lefts-next, pivots-next, pivots-nonzero, left-same, pivots-same}
+
+-- the matrix of a
+abbrev M : List ℕ → List ℕ → ℕ → ℕ → ℕ → ℕ
+M X Y = matrix (pair X Y)
+
+module _ (X Y : List ℕ) where
+  -- its rows of X and of Y
+  x-row : (a r c : ℕ) → r < a → M X Y a r c ≡ entry 2 32 X r c
+  unfolding matrix
+  x-row a r c h = rw (lt-ltb r a h, matrix) refl
+
+  y-row : (a t c : ℕ) → M X Y a (a + t) c ≡ entry 2 32 Y t c
+  unfolding matrix
+  y-row a t c =
+      let e : a + t - a ≡ t = omega arith in
+      let h : a ≤ a + t = omega arith in
+      rw (le-ltb (a + t) a h, matrix) (ap (λ (r : ℕ). entry 2 32 Y r c) e)
+
+  same-x : (a d r c : ℕ) → r < a → r < d → M X Y a r c ≡ M X Y d r c
+  same-x a d r c h g = x-row a r c h ∙ sym (x-row d r c g)
+
+-- a rows of X are reduced; x and y are what they leave of all rows; of each d below a the rows up to top are reduced
+pub record Scanned (X Y : List ℕ) (a top : ℕ) (x y : List ℕ) : Type 0 where
+  pub pivots : Pivots (M X Y 32) a
+  pub x-left : Lefts (M X Y 32) a 0 x
+  pub y-left : Lefts (M X Y a) a a y
+  pub done : (d : ℕ) → d < a → Pivots (M X Y d) top
+
+module _ {X Y : List ℕ} where
+  pub scanned-none : (x y : List ℕ) (top : ℕ) → AreRows X x → AreRows Y y → Scanned X Y 0 top x y
+  scanned-none x y top xs ys = record {
+    pivots = λ k h. absurd (omega arith);
+    x-left = λ t h. let e : 0 + t ≡ t = omega arith in
+        left-none (0 + t) (getD x t 0) (λ c l. xs t h c l ∙ sym (rw e (x-row X Y 32 t c h)));
+    y-left = λ t h. left-none (0 + t) (getD y t 0) (λ c l. ys t h c l ∙ sym (y-row X Y 0 t c));
+    done = λ d h. absurd (omega arith);
+  }
+
+  module _ {a top : ℕ} {x y : List ℕ} (S : Scanned X Y a top x y) where
+    own : a ≤ 32 → Pivots (M X Y a) a
+    own fits = pivots-same (M X Y 32) (M X Y a) (λ i c h. same-x X Y 32 a i c (omega arith) h) (S .pivots)
+
+    -- the rows of this a too
+    pub scanned-along : a ≤ 32 → {r : ℕ} → r ≤ top → Reaches y a r → (d : ℕ) → d < suc a → Pivots (M X Y d) r
+    scanned-along fits {r} l reach d h = go (lt-or-ge d a)
+      where
+        go : (d < a) ⊎ (a ≤ d) → Pivots (M X Y d) r
+        go (inl g) = λ k q. S .done d g k (omega arith)
+        go (inr g) = let e : d ≡ a = omega arith in rw e (reach (M X Y a) (S .y-left) (own fits))
+
+    module _ (fits : a < 32) where
+      by : Left (M X Y 32) a a (getD x a 0)
+      by = let e : 0 + a ≡ a = omega arith in subst (λ (r : ℕ). Left (M X Y 32) a r (getD x a 0)) e (S .x-left a fits)
+
+      pub scanned-next : {r : ℕ} (x′ y′ : List ℕ) → r ≤ top → Reaches y a r → digit 2 a (getD x a 0) ≡ 1
+          → AllCleared (getD x a 0) a x x′ → AllCleared (getD x a 0) a y y′ → Scanned X Y (suc a) r x′ y′
+      scanned-next {r} x′ y′ l reach one xs ys = record {
+        pivots = pivots-next (getD x a 0) by one (S .pivots);
+        x-left = lefts-next 0 x x′ by one xs (S .x-left);
+        y-left = lefts-next (suc a) y y′ (left-same (M X Y 32) (M X Y (suc a)) a (λ i c h. same-x X Y 32 (suc a) i c (omega arith) (omega arith)) (λ c. same-x X Y 32 (suc a) a c fits (omega arith)) by)
+            one ys (λ t h. left-same (M X Y a) (M X Y (suc a)) (suc a + t) (λ i c g. same-x X Y a (suc a) i c g (omega arith)) (λ c. y-row X Y a t c ∙ sym (y-row X Y (suc a) t c)) (S .y-left t h));
+        done = scanned-along (omega arith) l reach;
+      }
+
+    -- ---- the sizes that are cleared
+
+    pub scanned-stops : a ≤ 32 → {r : ℕ} → a ≤ r → r ≤ top → Reaches y a r → Cleared (pair X Y) (a + 1) 0
+    scanned-stops fits {r} g l reach n d p w (inr (e, q)) = absurd (omega arith)
+    scanned-stops fits {r} g l reach n d p w (inl h) =
+        pivots-nonzero (omega arith) (λ k q. scanned-along fits l reach d (omega arith) k (omega arith))
+
+    pub scanned-all : a ≤ 32 → top ≤ 32 → top ≤ a → Cleared (pair X Y) (top + 1) 0
+    scanned-all fits small l n d p w (inr (e, q)) = absurd (omega arith)
+    scanned-all fits small l n d p w (inl h) = pivots-nonzero (omega arith) (go (lt-or-ge d a))
+      where
+        go : (d < a) ⊎ (a ≤ d) → Pivots (M X Y d) n
+        go (inl g) k q = S .done d g k (omega arith)
+        go (inr g) k q = let e : d ≡ a = omega arith in rw e (own fits k (omega arith))
