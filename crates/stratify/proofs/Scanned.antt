@@ -3,10 +3,12 @@ use mathlib.Core.Path.{_≡_, refl, sym, ap, subst, _∙_}
 use mathlib.Core.Logic.{_⊎_, inl, inr}
 use mathlib.Core.List.{List}
 use Prim.Native.Nat.{ℕ, suc, _+_, _-_, _≤_, _<_}
+use native.Mathlib.Numerals.{add-one}
 use native.Mathlib.Omega.{arith}
 use borrow.Author.Tests.{lt-ltb, le-ltb}
 use lib.ListN.{getD}
 use Rattle.digits.specs.Digits.{digit}
+use Rattle.linear.specs.Matrix.{Matrix}
 use Rattle.linear.proofs.Cases.{lt-or-ge}
 use Rattle.net.specs.Generators.{Generators, entry}
 use Rattle.net.specs.Shape.{matrix}
@@ -14,6 +16,24 @@ use Rattle.net.specs.Check.{Cleared}
 use Rattle.plan.specs.Pair.{pair}
 use Rattle.stratify.specs.Minors.{AllCleared, Left, Lefts, Pivots, Reaches, AreRows}
 use Rattle.stratify.proofs.Pivots.{left-none, left-next, lefts-next, pivots-next, pivots-nonzero, left-same, pivots-same}
+
+-- ---- one a: from the words that its first a rows leave, the rows up to m are reduced, and the words in hand are what they leave
+
+abbrev pub Going : List ℕ → ℕ → List ℕ → ℕ → Type 0
+Going words a left m = (A : Matrix) → Lefts A a a words → Pivots A a → Pivots A m × Lefts A m a left
+
+pub going-none : (words : List ℕ) (a : ℕ) → Going words a words a
+going-none words a A L P = (P, L)
+
+pub going-more : (words left out : List ℕ) (a m : ℕ) → Going words a left m → a ≤ m → m < 32 → digit 2 m (getD left (m - a) 0) ≡ 1
+    → AllCleared (getD left (m - a) 0) m left out → Going words a out (m + 1)
+going-more words left out a m going l h one all A L P =
+    let (old, rest) = going A L P in
+    let e : a + (m - a) ≡ m = omega arith in
+    let by : Left A m m (getD left (m - a) 0) = subst (λ (r : ℕ). Left A m r (getD left (m - a) 0)) e (rest (m - a) (omega arith)) in
+    rw (add-one m) (pivots-next (getD left (m - a) 0) by one old, lefts-next a left out by one all rest)
+
+-- ---- all a
 
 -- the matrix of a
 abbrev M : List ℕ → List ℕ → ℕ → ℕ → ℕ → ℕ

@@ -1,62 +1,62 @@
+-- `stratify::minors::along` meets its contract: after each turn one more row is reduced. Assumes nothing.
+use mathlib.Core.Path.{_≡_}
+use Prim.Native.Nat.{ℕ, _-_, _≤_}
+use native.Mathlib.Omega.{arith}
+use lib.ListN.{getD}
+use Rattle.digits.specs.Digits.{digit}
+use Rattle.stratify.proofs.Scanned.{Going, going-none, going-more}
 use Rattle.stratify.proofs.minors.along.Statement.{statement}
 use Rattle.stratify.proofs.minors.along.Tie as tie
-use Rattle.stratify.proofs.minors.along.Reads as reads
-use Rattle.stratify.proofs.minors.along.Lts as lts
-use Rattle.stratify.proofs.minors.clear.Reads as clear-reads
 
 abbrev Inv-loop : tie.InvT-loop
-Inv-loop a top left₀ m₀ left m = ?
+Inv-loop a top left₀ m₀ left m = (a ≤ m) × (m ≤ top) × Going left₀ a left m
 
 abbrev μ-loop : tie.MeasureT-loop
-μ-loop a top left₀ m₀ left m = ?
+μ-loop a top left₀ m₀ left m = top - m
 
--- src/minors.rt:59:5
 loop-holds : tie.Need-loop-holds Inv-loop μ-loop
-loop-holds c = ?
+loop-holds c = (omega arith, omega arith, going-none (c .args .words) (c .args .a))
 
--- src/minors.rt:60:24
 sub-by : tie.Need-sub-by Inv-loop μ-loop
-sub-by c = ?
+sub-by c = omega arith
 
--- src/minors.rt:60:23
 cast-by : tie.Need-cast-by Inv-loop μ-loop
-cast-by c = ?
+cast-by c = omega arith
 
--- src/minors.rt:60:18
 mul-by : tie.Need-mul-by Inv-loop μ-loop
-mul-by c = ?
+mul-by c = omega arith
 
--- src/minors.rt:60:18
 array-read-by : tie.Need-array-read-by Inv-loop μ-loop
-array-read-by c = ?
+array-read-by c = omega arith
 
--- src/minors.rt:61:13
 shr-if1 : tie.Need-shr-if1 Inv-loop μ-loop
-shr-if1 c = ?
+shr-if1 c = omega arith
 
--- src/minors.rt:62:13
 returns : tie.Need-returns Inv-loop μ-loop
-returns c = ?
+returns c =
+    let l = c .before .before .loop in
+    (l .inv .0, l .inv .1, λ A L P. l .inv .2 A L P .0)
 
--- src/minors.rt:64:13
 clear-requires : tie.Need-clear-requires Inv-loop μ-loop
-clear-requires c κs = ?
+clear-requires c κs = omega arith
 
--- src/minors.rt:66:9
 add-m : tie.Need-add-m Inv-loop μ-loop
-add-m c = ?
+add-m c = omega arith
 
--- src/minors.rt:59:5
 loop-less : tie.Need-loop-less Inv-loop μ-loop
-loop-less c = ?
+loop-less c = omega arith
 
--- src/minors.rt:59:5
 loop-again : tie.Need-loop-again Inv-loop μ-loop
-loop-again c = ?
+loop-again c =
+    let a = c .before .before .before .before .args in
+    let l = c .before .before .before .loop in
+    let one : digit 2 (l .m) (getD (l .left) (l .m - a .a) 0) ≡ 1 = omega (arith, c .before .if1 .left) in
+    (omega arith, omega arith, going-more (a .words) (l .left) (c .clear .result) (a .a) (l .m) (l .inv .2) (l .inv .0) (omega arith) one (c .clear .ensures))
 
--- src/minors.rt:53:1
 returns-2 : tie.Need-returns-2 Inv-loop μ-loop
-returns-2 c = ?
+returns-2 c =
+    let l = c .before .loop in
+    (l .inv .0, l .inv .1, λ A L P. l .inv .2 A L P .0)
 
 pub along-spec : {M : Type 1} → statement M
 along-spec =

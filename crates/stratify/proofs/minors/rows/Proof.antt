@@ -1,63 +1,50 @@
+-- `stratify::minors::rows` meets its contract: after r turns the first r rows stand. Assumes nothing.
+use mathlib.Core.Path.{_≡_, refl}
+use Prim.Native.Nat.{ℕ, _-_, _≤_, _<_}
+use native.Mathlib.Omega.{arith}
+use lib.ListN.{length, getD, length-set}
+use Rattle.stratify.specs.Minors.{IsRow}
+use Rattle.stratify.proofs.Transposed.{written}
 use Rattle.stratify.proofs.minors.rows.Statement.{statement}
 use Rattle.stratify.proofs.minors.rows.Tie as tie
-use Rattle.stratify.proofs.minors.rows.Reads as reads
-use Rattle.stratify.proofs.minors.rows.Lts as lts
-use Rattle.stratify.proofs.minors.row.Reads as row-reads
 
 abbrev Inv-loop : tie.InvT-loop
-Inv-loop columns words₀ r₀ words r = ?
+Inv-loop columns words₀ r₀ words r = (r ≤ 32) × (length words ≡ 32) × ((s : ℕ) → s < r → IsRow columns s (getD words s 0))
 
 abbrev μ-loop : tie.MeasureT-loop
-μ-loop columns words₀ r₀ words r = ?
+μ-loop columns words₀ r₀ words r = 32 - r
 
--- src/minors.rt:30:5
 loop-holds : tie.Need-loop-holds Inv-loop μ-loop
-loop-holds c = ?
+loop-holds c = (omega arith, refl, λ s h. absurd (omega arith))
 
--- src/minors.rt:31:33
 cast-row : tie.Need-cast-row Inv-loop μ-loop
-cast-row c = ?
+cast-row c = record { fits = omega arith }
 
--- src/minors.rt:31:20
 row-requires : tie.Need-row-requires Inv-loop μ-loop
-row-requires c κs = ?
+row-requires c κs = omega arith
 
--- src/minors.rt:31:9
 mul-words : tie.Need-mul-words Inv-loop μ-loop
-mul-words c = ?
+mul-words c = omega arith
 
--- src/minors.rt:31:9
 array-write-words : tie.Need-array-write-words Inv-loop μ-loop
-array-write-words c = ?
+array-write-words c = omega arith
 
--- src/minors.rt:32:9
 add-r : tie.Need-add-r Inv-loop μ-loop
-add-r c = ?
+add-r c = omega arith
 
--- src/minors.rt:30:5
 loop-less : tie.Need-loop-less Inv-loop μ-loop
-loop-less c = ?
+loop-less c = omega arith
 
--- src/minors.rt:30:5
 loop-again : tie.Need-loop-again Inv-loop μ-loop
-loop-again c = ?
+loop-again c =
+    let columns = c .before .before .before .args .columns in
+    let l = c .before .before .loop in
+    (omega arith, simp length-set (l .inv .1), written (IsRow columns) (l .words) (l .r) (c .row .result) (omega arith) (l .inv .2) (c .row .ensures))
 
--- src/minors.rt:25:1
 returns : tie.Need-returns Inv-loop μ-loop
-returns c = ?
+returns c = λ r h. c .before .loop .inv .2 r (omega arith)
 
 pub rows-spec : {M : Type 1} → statement M
 rows-spec =
     tie.close
-    (tie.spec
-    Inv-loop
-    μ-loop
-    loop-holds
-    cast-row
-    row-requires
-    mul-words
-    array-write-words
-    add-r
-    loop-less
-    loop-again
-    returns)
+    (tie.spec Inv-loop μ-loop loop-holds cast-row row-requires mul-words array-write-words add-r loop-less loop-again returns)

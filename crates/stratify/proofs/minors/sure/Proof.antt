@@ -1,0 +1,110 @@
+-- `stratify::minors::sure` meets its contract: after each turn one more row of X is reduced, and of one more a the rows up to top.
+-- Assumes nothing.
+use mathlib.Core.Path.{_≡_}
+use mathlib.Core.List.{List}
+use Prim.Native.Nat.{ℕ, _+_, _-_, _≤_}
+use native.Mathlib.Numerals.{add-one}
+use native.Mathlib.Omega.{arith}
+use lib.ListN.{getD}
+use Rattle.digits.specs.Digits.{digit}
+use Rattle.stratify.specs.Minors.{AreRows}
+use Rattle.stratify.proofs.Scanned.{Scanned, scanned-none, scanned-next, scanned-stops, scanned-all}
+use Rattle.stratify.proofs.minors.sure.Statement.{statement}
+use Rattle.stratify.proofs.minors.sure.Tie as tie
+
+abbrev Inv-loop : tie.InvT-loop
+Inv-loop level x₀ y₀ top₀ a₀ x y top a = (a ≤ 32) × (top ≤ level) × ((X Y : List ℕ) → AreRows X x₀ → AreRows Y y₀ → Scanned X Y a top x y)
+
+abbrev μ-loop : tie.MeasureT-loop
+μ-loop level x₀ y₀ top₀ a₀ x y top a = 32 - a
+
+rows-requires : tie.Need-rows-requires Inv-loop μ-loop
+rows-requires c κs = tt
+
+rows-requires-2 : tie.Need-rows-requires-2 Inv-loop μ-loop
+rows-requires-2 c κs = tt
+
+loop-holds : tie.Need-loop-holds Inv-loop μ-loop
+loop-holds c = (omega arith, omega arith, λ X Y xs ys. scanned-none (c .before .before .rows .result) (c .rows2 .result) (c .before .before .before .before .args .level) xs ys)
+
+along-requires : tie.Need-along-requires Inv-loop μ-loop
+along-requires c κs = (omega arith, omega arith)
+
+cast-by : tie.Need-cast-by Inv-loop μ-loop
+cast-by c = omega arith
+
+mul-by : tie.Need-mul-by Inv-loop μ-loop
+mul-by c = omega arith
+
+array-read-by : tie.Need-array-read-by Inv-loop μ-loop
+array-read-by c = omega arith
+
+shr-if1 : tie.Need-shr-if1 Inv-loop μ-loop
+shr-if1 c = omega arith
+
+add-result : tie.Need-add-result Inv-loop μ-loop
+add-result c = omega arith
+
+returns : tie.Need-returns Inv-loop μ-loop
+returns c =
+    let l = c .before .before .before .loop in
+    let reached = c .before .along .ensures in
+    let s = l .inv .2 _ _ (c .before .before .before .before .before .before .rows .ensures) (c .before .before .before .before .rows2 .ensures) in
+    (omega arith, omega arith, scanned-stops s (l .inv .0) (reached .0) (reached .1) (reached .2))
+
+clear-requires : tie.Need-clear-requires Inv-loop μ-loop
+clear-requires c κs = omega arith
+
+clear-requires-2 : tie.Need-clear-requires-2 Inv-loop μ-loop
+clear-requires-2 c κs = omega arith
+
+add-a : tie.Need-add-a Inv-loop μ-loop
+add-a c = omega arith
+
+loop-less : tie.Need-loop-less Inv-loop μ-loop
+loop-less c = omega arith
+
+loop-again : tie.Need-loop-again Inv-loop μ-loop
+loop-again c =
+    let l = c .before .before .before .before .before .loop in
+    let reached = c .before .before .before .along .ensures in
+    let small : l .a + 1 ≤ 32 = omega arith in
+    let one : digit 2 (l .a) (getD (l .x) (l .a) 0) ≡ 1 = omega (arith, c .before .before .if1 .left) in (
+      small,
+      omega arith,
+      λ X Y xs ys. rw (add-one (l .a)) (scanned-next (l .inv .2 X Y xs ys) (omega arith) (c .before .clear .result) (c .clear2 .result)
+          (reached .1) (reached .2) one (c .before .clear .ensures) (c .clear2 .ensures)),
+    )
+
+add-result-2 : tie.Need-add-result-2 Inv-loop μ-loop
+add-result-2 c = omega arith
+
+returns-2 : tie.Need-returns-2 Inv-loop μ-loop
+returns-2 c =
+    let l = c .before .loop in
+    let s = l .inv .2 _ _ (c .before .before .before .before .rows .ensures) (c .before .before .rows2 .ensures) in
+    (omega arith, omega arith, scanned-all s (l .inv .0) (omega arith) (omega arith))
+
+pub sure-spec : {M : Type 1} → statement M
+sure-spec =
+    tie.close
+    (tie.spec
+    Inv-loop
+    μ-loop
+    rows-requires
+    rows-requires-2
+    loop-holds
+    along-requires
+    cast-by
+    mul-by
+    array-read-by
+    shr-if1
+    add-result
+    returns
+    clear-requires
+    clear-requires-2
+    add-a
+    loop-less
+    loop-again
+    add-result-2
+    returns-2)
