@@ -49,7 +49,8 @@ returns : tie.Need-returns Inv-loop μ-loop
 returns c =
     let l = c .before .before .before .loop in
     let reached = c .before .along .ensures in
-    let s = l .inv .2 _ _ (c .before .before .before .before .before .before .rows .ensures) (c .before .before .before .before .rows2 .ensures) in
+    let P = c .before .before .before .before .before .before .before .before .args .plan in
+    let s = l .inv .2 (P .x) (P .y) (c .before .before .before .before .before .before .rows .ensures) (c .before .before .before .before .rows2 .ensures) in
     (omega arith, omega arith, scanned-stops s (l .inv .0) (reached .0) (reached .1) (reached .2))
 
 clear-requires : tie.Need-clear-requires Inv-loop μ-loop
@@ -82,7 +83,8 @@ add-result-2 c = omega arith
 returns-2 : tie.Need-returns-2 Inv-loop μ-loop
 returns-2 c =
     let l = c .before .loop in
-    let s = l .inv .2 _ _ (c .before .before .before .before .rows .ensures) (c .before .before .rows2 .ensures) in
+    let P = c .before .before .before .before .before .before .args .plan in
+    let s = l .inv .2 (P .x) (P .y) (c .before .before .before .before .rows .ensures) (c .before .before .rows2 .ensures) in
     (omega arith, omega arith, scanned-all s (l .inv .0) (omega arith) (omega arith))
 
 pub sure-spec : {M : Type 1} → statement M

@@ -56,18 +56,25 @@ returns-2 c =
     let unknown = sym (c .before .unknown-level .ensures) ∙ c .if1 .taken in
     sym (pair-passed told ∙ first-refuses (verdict (told .before .before .before .before)) 2 [] unknown)
 
+sure-requires : tie.Need-sure-requires
+sure-requires c κs = level-of _ (sym (c .before .before .unknown-level .ensures) ∙ c .before .if1 .left) .known
+
 scan-requires : tie.Need-scan-requires
 scan-requires c κs =
-    let P = c .before .before .before .before .load .result .plan in (
+    let P = c .before .before .before .before .before .before .load .result .plan in
+    let sure = c .sure .ensures in (
       words-valid (P .x) (P .y)
           (λ t. let f : Fits w32 (getD (P .x) t 0) = search needs in f .fits)
           (λ t. let f : Fits w32 (getD (P .y) t 0) = search needs in f .fits),
-      level-of _ (sym (c .before .unknown-level .ensures) ∙ c .if1 .left) .known,
+      level-of _ (sym (c .before .before .before .unknown-level .ensures) ∙ c .before .before .if1 .left) .known,
+      sure .0,
+      sure .1,
+      sure .2,
     )
 
 returns-3 : tie.Need-returns-3
 returns-3 c =
-    let d = c .before in
+    let d = c .before .before .before in
     let told = d .before .before in
     let s = told .before .before .before .before in
     c .scan .ensures
@@ -84,5 +91,6 @@ check-spec =
     enum-told
     unknown-level-requires
     returns-2
+    sure-requires
     scan-requires
     returns-3)
