@@ -88,13 +88,21 @@ module _ {X Y : List ℕ} where
       by : Left (M X Y 32) a a (getD x a 0)
       by = let e : 0 + a ≡ a = omega arith in subst (λ (r : ℕ). Left (M X Y 32) a r (getD x a 0)) e (S .x-left a fits)
 
+      -- the row of X and the rows of Y in the matrix of the next a
+      next-by : Left (M X Y (suc a)) a a (getD x a 0)
+      next-by = left-same (M X Y 32) (M X Y (suc a)) a
+          (λ i c h. same-x X Y 32 (suc a) i c (omega arith) (omega arith)) (λ c. same-x X Y 32 (suc a) a c fits (omega arith)) by
+
+      next-y : Lefts (M X Y (suc a)) a (suc a) y
+      next-y t h = left-same (M X Y a) (M X Y (suc a)) (suc a + t)
+          (λ i c g. same-x X Y a (suc a) i c g (omega arith)) (λ c. y-row X Y a t c ∙ sym (y-row X Y (suc a) t c)) (S .y-left t h)
+
       pub scanned-next : {r : ℕ} (x′ y′ : List ℕ) → r ≤ top → Reaches y a r → digit 2 a (getD x a 0) ≡ 1
           → AllCleared (getD x a 0) a x x′ → AllCleared (getD x a 0) a y y′ → Scanned X Y (suc a) r x′ y′
       scanned-next {r} x′ y′ l reach one xs ys = record {
         pivots = pivots-next (getD x a 0) by one (S .pivots);
         x-left = lefts-next 0 x x′ by one xs (S .x-left);
-        y-left = lefts-next (suc a) y y′ (left-same (M X Y 32) (M X Y (suc a)) a (λ i c h. same-x X Y 32 (suc a) i c (omega arith) (omega arith)) (λ c. same-x X Y 32 (suc a) a c fits (omega arith)) by)
-            one ys (λ t h. left-same (M X Y a) (M X Y (suc a)) (suc a + t) (λ i c g. same-x X Y a (suc a) i c g (omega arith)) (λ c. y-row X Y a t c ∙ sym (y-row X Y (suc a) t c)) (S .y-left t h));
+        y-left = lefts-next (suc a) y y′ next-by one ys next-y;
         done = scanned-along (omega arith) l reach;
       }
 

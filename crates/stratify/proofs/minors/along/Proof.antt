@@ -1,6 +1,6 @@
 -- `stratify::minors::along` meets its contract: after each turn one more row is reduced. Assumes nothing.
 use mathlib.Core.Path.{_≡_}
-use Prim.Native.Nat.{ℕ, _-_, _≤_}
+use Prim.Native.Nat.{ℕ, _-_, _≤_, _<_}
 use native.Mathlib.Omega.{arith}
 use lib.ListN.{getD}
 use Rattle.digits.specs.Digits.{digit}
@@ -51,7 +51,9 @@ loop-again c =
     let a = c .before .before .before .before .args in
     let l = c .before .before .before .loop in
     let one : digit 2 (l .m) (getD (l .left) (l .m - a .a) 0) ≡ 1 = omega (arith, c .before .if1 .left) in
-    (omega arith, omega arith, going-more (a .words) (l .left) (c .clear .result) (a .a) (l .m) (l .inv .2) (l .inv .0) (omega arith) one (c .clear .ensures))
+    let small : l .m < 32 = omega arith in
+    let more = going-more (a .words) (l .left) (c .clear .result) (a .a) (l .m) (l .inv .2) (l .inv .0) small one (c .clear .ensures) in
+    (omega arith, omega arith, more)
 
 returns-2 : tie.Need-returns-2 Inv-loop μ-loop
 returns-2 c =

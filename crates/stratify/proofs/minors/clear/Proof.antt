@@ -49,7 +49,11 @@ loop-again : tie.Need-loop-again Inv-loop μ-loop
 loop-again c =
     let a = c .before .before .args in
     let l = c .before .loop in
-    (omega arith, simp length-set (l .inv .1), written (λ s w. w ≡ cleared (a .by) (a .c) (getD (a .t1) s 0)) (l .out) (l .t) _ (omega arith) (l .inv .2) refl)
+    let room : l .t < length (l .out) = omega arith in (
+      omega arith,
+      simp length-set (l .inv .1),
+      written (λ s w. w ≡ cleared (a .by) (a .c) (getD (a .t1) s 0)) (l .out) (l .t) _ room (l .inv .2) refl,
+    )
 
 returns : tie.Need-returns Inv-loop μ-loop
 returns c = λ t h. c .before .loop .inv .2 t (omega arith)

@@ -25,7 +25,9 @@ rows-requires-2 : tie.Need-rows-requires-2 Inv-loop μ-loop
 rows-requires-2 c κs = tt
 
 loop-holds : tie.Need-loop-holds Inv-loop μ-loop
-loop-holds c = (omega arith, omega arith, λ X Y xs ys. scanned-none (c .before .before .rows .result) (c .rows2 .result) (c .before .before .before .before .args .level) xs ys)
+loop-holds c =
+    let level = c .before .before .before .before .args .level in
+    (omega arith, omega arith, λ X Y xs ys. scanned-none (c .before .before .rows .result) (c .rows2 .result) level xs ys)
 
 along-requires : tie.Need-along-requires Inv-loop μ-loop
 along-requires c κs = (omega arith, omega arith)
@@ -50,7 +52,8 @@ returns c =
     let l = c .before .before .before .loop in
     let reached = c .before .along .ensures in
     let P = c .before .before .before .before .before .before .before .before .args .plan in
-    let s = l .inv .2 (P .x) (P .y) (c .before .before .before .before .before .before .rows .ensures) (c .before .before .before .before .rows2 .ensures) in
+    let xs = c .before .before .before .before .before .before .rows .ensures in
+    let s = l .inv .2 (P .x) (P .y) xs (c .before .before .before .before .rows2 .ensures) in
     (omega arith, omega arith, scanned-stops s (l .inv .0) (reached .0) (reached .1) (reached .2))
 
 clear-requires : tie.Need-clear-requires Inv-loop μ-loop
