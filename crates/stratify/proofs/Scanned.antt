@@ -14,7 +14,7 @@ use Rattle.net.specs.Generators.{Generators, entry}
 use Rattle.net.specs.Shape.{matrix}
 use Rattle.net.specs.Check.{Cleared}
 use Rattle.plan.specs.Pair.{pair}
-use Rattle.stratify.specs.Minors.{AllCleared, Left, Lefts, Pivots, Reaches, AreRows}
+use Rattle.stratify.specs.Minors.{AllCleared, Left, Lefts, Pivots, Reaches, Earlier, AreRows}
 use Rattle.stratify.proofs.Pivots.{left-none, left-next, lefts-next, pivots-next, pivots-nonzero, left-same, pivots-same}
 
 -- ---- one a: from the words that its first a rows leave, the rows up to m are reduced, and the words in hand are what they leave
@@ -55,40 +55,47 @@ module _ (X Y : List ℕ) where
   same-x : (a d r c : ℕ) → r < a → r < d → M X Y a r c ≡ M X Y d r c
   same-x a d r c h g = x-row a r c h ∙ sym (x-row d r c g)
 
--- a rows of X are reduced; x and y are what they leave of all rows; of each d below a the rows up to top are reduced
-pub record Scanned (X Y : List ℕ) (a top : ℕ) (x y : List ℕ) : Type 0 where
+-- the shape in doubt is one
+pub earlier-within : (top at r a s : ℕ) → Earlier top at r a s → a ≤ r → at ≤ top → s ≤ r
+earlier-within top at r a s earlier l h = go (lt-or-ge r top)
+  where
+    go : (r < top) ⊎ (top ≤ r) → s ≤ r
+    go (inl g) = let e = earlier .0 g in omega arith
+    go (inr g) = let e = earlier .1 g in omega arith
+
+-- a rows of X are reduced; x and y are what they leave of all rows; of each d below a the rows up to top are reduced, and of each d
+-- below `at` the next row too
+pub record Scanned (X Y : List ℕ) (a top at : ℕ) (x y : List ℕ) : Type 0 where
   pub pivots : Pivots (M X Y 32) a
   pub x-left : Lefts (M X Y 32) a 0 x
   pub y-left : Lefts (M X Y a) a a y
   pub done : (d : ℕ) → d < a → Pivots (M X Y d) top
+  pub edge : (d : ℕ) → d < at → (top < 32) × Pivots (M X Y d) (top + 1)
 
 module _ {X Y : List ℕ} where
-  pub scanned-none : (x y : List ℕ) (top : ℕ) → AreRows X x → AreRows Y y → Scanned X Y 0 top x y
+  pub scanned-none : (x y : List ℕ) (top : ℕ) → AreRows X x → AreRows Y y → Scanned X Y 0 top 0 x y
   scanned-none x y top xs ys = record {
     pivots = λ k h. absurd (omega arith);
-    x-left = λ t h. let e : 0 + t ≡ t = omega arith in
+    x-left = λ t h.
+        let e : 0 + t ≡ t = omega arith in
         left-none (0 + t) (getD x t 0) (λ c l. xs t h c l ∙ sym (rw e (x-row X Y 32 t c h)));
     y-left = λ t h. left-none (0 + t) (getD y t 0) (λ c l. ys t h c l ∙ sym (y-row X Y 0 t c));
     done = λ d h. absurd (omega arith);
+    edge = λ d h. absurd (omega arith);
   }
 
-  module _ {a top : ℕ} {x y : List ℕ} (S : Scanned X Y a top x y) where
+  module _ {a top at : ℕ} {x y : List ℕ} (S : Scanned X Y a top at x y) where
+    -- the shape of X alone
     own : a ≤ 32 → Pivots (M X Y a) a
     own fits = pivots-same (M X Y 32) (M X Y a) (λ i c h. same-x X Y 32 a i c (omega arith) h) (S .pivots)
 
-    -- the rows of this a too
-    pub scanned-along : a ≤ 32 → {r : ℕ} → r ≤ top → Reaches y a r → (d : ℕ) → d < suc a → Pivots (M X Y d) r
-    scanned-along fits {r} l reach d h = go (lt-or-ge d a)
-      where
-        go : (d < a) ⊎ (a ≤ d) → Pivots (M X Y d) r
-        go (inl g) = λ k q. S .done d g k (omega arith)
-        go (inr g) = let e : d ≡ a = omega arith in rw e (reach (M X Y a) (S .y-left) (own fits))
+    -- ---- the next a
 
     module _ (fits : a < 32) where
       by : Left (M X Y 32) a a (getD x a 0)
       by = let e : 0 + a ≡ a = omega arith in subst (λ (r : ℕ). Left (M X Y 32) a r (getD x a 0)) e (S .x-left a fits)
 
-      -- the row of X and the rows of Y in the matrix of the next a
+      -- the row of X and the rows of Y in its matrix
       next-by : Left (M X Y (suc a)) a a (getD x a 0)
       next-by = left-same (M X Y 32) (M X Y (suc a)) a
           (λ i c h. same-x X Y 32 (suc a) i c (omega arith) (omega arith)) (λ c. same-x X Y 32 (suc a) a c fits (omega arith)) by
@@ -97,24 +104,40 @@ module _ {X Y : List ℕ} where
       next-y t h = left-same (M X Y a) (M X Y (suc a)) (suc a + t)
           (λ i c g. same-x X Y a (suc a) i c g (omega arith)) (λ c. y-row X Y a t c ∙ sym (y-row X Y (suc a) t c)) (S .y-left t h)
 
-      pub scanned-next : {r : ℕ} (x′ y′ : List ℕ) → r ≤ top → Reaches y a r → digit 2 a (getD x a 0) ≡ 1
-          → AllCleared (getD x a 0) a x x′ → AllCleared (getD x a 0) a y y′ → Scanned X Y (suc a) r x′ y′
-      scanned-next {r} x′ y′ l reach one xs ys = record {
+      pub scanned-next : {r s : ℕ} (x′ y′ : List ℕ) → top ≤ 32 → r ≤ top → Reaches y a r → Earlier top at r a s → digit 2 a (getD x a 0) ≡ 1
+          → AllCleared (getD x a 0) a x x′ → AllCleared (getD x a 0) a y y′ → Scanned X Y (suc a) r s x′ y′
+      scanned-next {r} {s} x′ y′ small l reach earlier one xs ys = record {
         pivots = pivots-next (getD x a 0) by one (S .pivots);
         x-left = lefts-next 0 x x′ by one xs (S .x-left);
         y-left = lefts-next (suc a) y y′ next-by one ys next-y;
-        done = scanned-along (omega arith) l reach;
+        done = λ d h. done d h (lt-or-ge d a);
+        edge = edge (lt-or-ge r top);
       }
+        where
+          done : (d : ℕ) → d < suc a → (d < a) ⊎ (a ≤ d) → Pivots (M X Y d) r
+          done d h (inl g) = λ k q. S .done d g k (omega arith)
+          done d h (inr g) = let e : d ≡ a = omega arith in rw e (reach (M X Y a) (S .y-left) (own (omega arith)))
 
-    -- ---- the sizes that are cleared
+          edge : (r < top) ⊎ (top ≤ r) → (d : ℕ) → d < s → (r < 32) × Pivots (M X Y d) (r + 1)
+          edge (inl g) d h = let e = earlier .0 g in (omega arith, λ k q. S .done d (omega arith) k (omega arith))
+          edge (inr g) d h =
+              let e = earlier .1 g in
+              let t : r ≡ top = omega arith in
+              rw t (S .edge d (omega arith))
 
-    pub scanned-stops : a ≤ 32 → {r : ℕ} → a ≤ r → r ≤ top → Reaches y a r → Cleared (pair X Y) (a + 1) 0
-    scanned-stops fits {r} g l reach n d p w (inr (e, q)) = absurd (omega arith)
-    scanned-stops fits {r} g l reach n d p w (inl h) =
-        pivots-nonzero (omega arith) (λ k q. scanned-along fits l reach d (omega arith) k (omega arith))
+    -- ---- the shapes that are cleared
 
-    pub scanned-all : a ≤ 32 → top ≤ 32 → top ≤ a → Cleared (pair X Y) (top + 1) 0
-    scanned-all fits small l n d p w (inr (e, q)) = absurd (omega arith)
+    -- where X's row leaves no one
+    pub scanned-stops : a < top → top ≤ 32 → Cleared (pair X Y) (a + 1) a
+    scanned-stops l small n d p w (inr (e, q)) = pivots-nonzero (omega arith) (λ k h. S .done d q k (omega arith))
+    scanned-stops l small n d p w (inl h) = pivots-nonzero (omega arith) (go (lt-or-ge d a))
+      where
+        go : (d < a) ⊎ (a ≤ d) → Pivots (M X Y d) n
+        go (inl g) k q = S .done d g k (omega arith)
+        go (inr g) k q = let e : d ≡ a = omega arith in rw e (own (omega arith) k (omega arith))
+
+    pub scanned-all : a ≤ 32 → top ≤ 32 → top ≤ a → Cleared (pair X Y) (top + 1) at
+    scanned-all fits small l n d p w (inr (e, q)) = let (room, P) = S .edge d q in pivots-nonzero (omega arith) (λ k h. P k (omega arith))
     scanned-all fits small l n d p w (inl h) = pivots-nonzero (omega arith) (go (lt-or-ge d a))
       where
         go : (d < a) ⊎ (a ≤ d) → Pivots (M X Y d) n

@@ -7,7 +7,8 @@ use lib.Bits.{bitXor}
 use lib.ListN.{getD}
 use Rattle.digits.specs.Digits.{digit}
 use Rattle.linear.specs.Matrix.{Matrix, sum, image}
-use Rattle.net.specs.Generators.{entry}
+use Rattle.net.specs.Generators.{Generators, entry}
+use Rattle.net.specs.Check.{Cleared}
 
 -- the first l bits of a word times a vector, modulo 2
 abbrev pub word-times : ℕ → ℕ → (ℕ → ℕ) → ℕ
@@ -41,6 +42,17 @@ Pivots A m = (k : ℕ) → k < m → Pivot A k
 -- from 32 words that the first a rows leave, the rows up to m are reduced
 abbrev pub Reaches : List ℕ → ℕ → ℕ → Type 0
 Reaches words a m = (A : Matrix) → Lefts A a a words → Pivots A a → Pivots A m
+
+-- the a of the first shape in doubt goes from `at` to s, where a shape of this a is in doubt already after r rows and not after top
+abbrev pub Earlier : (top at r a s : ℕ) → Type 0
+Earlier top at r a s = (r < top → s ≡ a) × (top ≤ r → s ≡ at)
+
+-- the scan of the shapes up to a level may start at (m, a)
+pub record Starts (G : Generators) (level m a : ℕ) : Type 0 where
+  pub positive : 0 < m
+  pub wide : a ≤ m
+  pub within : m ≤ level + 1
+  pub cleared : Cleared G m a
 
 -- the word of row r of the matrix with the columns C, and the words of its 32 rows
 abbrev pub IsRow : List ℕ → ℕ → ℕ → Type 0

@@ -1,9 +1,8 @@
-// A fast scan that says up to which size every shape is surely a net. The shapes (m, a) of one a are the leading minors of one matrix,
+// A fast scan that says up to which shape all are surely nets. The shapes (m, a) of one a are the leading minors of one matrix,
 // the first a rows of X and below them the rows of Y, so that each shape costs one row. A row is a word, bit c its entry in column c.
-ghost use Prim.Native.Nat.{_+_, _≤_, _<_};
-ghost use Rattle.net.specs.Check.{Cleared};
+ghost use Prim.Native.Nat.{_≤_, _<_};
 ghost use Rattle.plan.specs.Pair.{generators, largest-level};
-ghost use Rattle.stratify.specs.Minors.{AllCleared, Reaches, IsRow, AreRows};
+ghost use Rattle.stratify.specs.Minors.{AllCleared, Reaches, Earlier, Starts, IsRow, AreRows};
 use plan::Plan;
 use word::Columns;
 
@@ -68,28 +67,46 @@ fn along(words: [u32; 32], a: u32, top: u32) -> u32
     m
 }
 
-// The first size with a shape that is not surely a net, or the size after the level.
-pub(crate) fn sure(plan: Plan, level: u32) -> u32
+// The a of the first shape in doubt, where this a has r rows that leave a one and the ones before it have top.
+fn earlier(top: u32, at: u32, r: u32, a: u32) -> u32
+    ensures { λ s. ⌜ Earlier top at r a s ⌝ }
+{
+    if r < top { a } else { at }
+}
+
+// A shape.
+pub(crate) struct Start {
+    pub m: u32,
+    pub a: u32,
+}
+
+// A shape before which all are nets, up to the size after the level: the first that is not, or the one before it in its size.
+pub(crate) fn sure(plan: Plan, level: u32) -> Start
     requires { ⌜ level ≤ largest-level ⌝ }
-    ensures { λ r. ⌜ (0 < r) × (r ≤ level + 1) × Cleared (generators plan) r 0 ⌝ }
+    ensures { λ r. ⌜ Starts (generators plan) level (r .m) (r .a) ⌝ }
 {
     let columns = plan.x;
     let mut x = rows(columns);
     let others = plan.y;
     let mut y = rows(others);
     let mut top = level;
+    let mut at = 0u32;
     let mut a = 0u32;
     while a < top {
-        top = along(y, a, top);
         let by = x[a as usize];
         if (by >> a) % 2 == 0 {
-            return a + 1;
+            let m = a + 1;
+            return Start { m, a };
         }
+        let r = along(y, a, top);
+        at = earlier(top, at, r, a);
+        top = r;
         let below = clear(x, by, a);
         let beside = clear(y, by, a);
         x = below;
         y = beside;
         a += 1;
     }
-    top + 1
+    let m = top + 1;
+    Start { m, a: at }
 }

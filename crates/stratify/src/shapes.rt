@@ -1,24 +1,25 @@
 // The check of generator matrices: the shapes in their order, up to the first that is no net.
 ghost use mathlib.Core.Path.{_≡_};
-ghost use Prim.Native.Nat.{_+_, _≤_, _<_};
+ghost use Prim.Native.Nat.{_≤_};
 ghost use Rattle.net.specs.Generators.{Valid};
-ghost use Rattle.net.specs.Check.{check, Cleared};
+ghost use Rattle.net.specs.Check.{check};
 ghost use Rattle.refusal.specs.Refusal.{of-judgement};
 ghost use Rattle.plan.specs.Pair.{generators, largest-level};
 ghost use Rattle.stratify.specs.Answers.{of-verdict, check-outcome};
+ghost use Rattle.stratify.specs.Minors.{Starts};
 use crate::elimination::eliminate;
 use crate::minors::sure;
 use plan::Plan;
 use refusal::Judgement;
 use refusal::Refusal;
 
-// The first bad shape, m rising and then a rising, where no size below `from` has one.
-fn scan(plan: Plan, level: u32, from: u32) -> Judgement
-    requires { ⌜ Valid (generators plan) × (level ≤ largest-level) × (0 < from) × (from ≤ level + 1) × Cleared (generators plan) from 0 ⌝ }
+// The first bad shape, m rising and then a rising, where none is before the given one.
+fn scan(plan: Plan, level: u32, from: u32, at: u32) -> Judgement
+    requires { ⌜ Valid (generators plan) × (level ≤ largest-level) × Starts (generators plan) level from at ⌝ }
     ensures { λ r. ⌜ of-judgement r ≡ of-verdict (check (generators plan) level) ⌝ }
 {
     let mut m = from;
-    let mut a = 0u32;
+    let mut a = at;
     while m <= level {
         let e = eliminate(plan, m, a, 0);
         let bad = e.bad;
@@ -51,5 +52,6 @@ pub fn check(words: &[u32], level: u32) -> Judgement
         return Judgement::Refused(Refusal::Level);
     }
     let plan = loaded.plan;
-    scan(plan, level, sure(plan, level))
+    let start = sure(plan, level);
+    scan(plan, level, start.m, start.a)
 }

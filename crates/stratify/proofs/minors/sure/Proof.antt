@@ -2,21 +2,22 @@
 -- Assumes nothing.
 use mathlib.Core.Path.{_≡_}
 use mathlib.Core.List.{List}
-use Prim.Native.Nat.{ℕ, _+_, _-_, _≤_}
+use Prim.Native.Nat.{ℕ, _+_, _-_, _≤_, _<_}
 use native.Mathlib.Numerals.{add-one}
 use native.Mathlib.Omega.{arith}
 use lib.ListN.{getD}
 use Rattle.digits.specs.Digits.{digit}
 use Rattle.stratify.specs.Minors.{AreRows}
-use Rattle.stratify.proofs.Scanned.{Scanned, scanned-none, scanned-next, scanned-stops, scanned-all}
+use Rattle.stratify.proofs.Scanned.{Scanned, scanned-none, scanned-next, scanned-stops, scanned-all, earlier-within}
 use Rattle.stratify.proofs.minors.sure.Statement.{statement}
 use Rattle.stratify.proofs.minors.sure.Tie as tie
 
 abbrev Inv-loop : tie.InvT-loop
-Inv-loop level x₀ y₀ top₀ a₀ x y top a = (a ≤ 32) × (top ≤ level) × ((X Y : List ℕ) → AreRows X x₀ → AreRows Y y₀ → Scanned X Y a top x y)
+Inv-loop level x₀ y₀ top₀ at₀ a₀ x y top at a =
+    (a ≤ 32) × (top ≤ level) × (at ≤ top) × ((X Y : List ℕ) → AreRows X x₀ → AreRows Y y₀ → Scanned X Y a top at x y)
 
 abbrev μ-loop : tie.MeasureT-loop
-μ-loop level x₀ y₀ top₀ a₀ x y top a = 32 - a
+μ-loop level x₀ y₀ top₀ at₀ a₀ x y top at a = 32 - a
 
 rows-requires : tie.Need-rows-requires Inv-loop μ-loop
 rows-requires c κs = tt
@@ -27,10 +28,7 @@ rows-requires-2 c κs = tt
 loop-holds : tie.Need-loop-holds Inv-loop μ-loop
 loop-holds c =
     let level = c .before .before .before .before .args .level in
-    (omega arith, omega arith, λ X Y xs ys. scanned-none (c .before .before .rows .result) (c .rows2 .result) level xs ys)
-
-along-requires : tie.Need-along-requires Inv-loop μ-loop
-along-requires c κs = (omega arith, omega arith)
+    (omega arith, omega arith, omega arith, λ X Y xs ys. scanned-none (c .before .before .rows .result) (c .rows2 .result) level xs ys)
 
 cast-by : tie.Need-cast-by Inv-loop μ-loop
 cast-by c = omega arith
@@ -44,17 +42,23 @@ array-read-by c = omega arith
 shr-if1 : tie.Need-shr-if1 Inv-loop μ-loop
 shr-if1 c = omega arith
 
-add-result : tie.Need-add-result Inv-loop μ-loop
-add-result c = omega arith
+add-m : tie.Need-add-m Inv-loop μ-loop
+add-m c = omega arith
 
 returns : tie.Need-returns Inv-loop μ-loop
 returns c =
-    let l = c .before .before .before .loop in
-    let reached = c .before .along .ensures in
-    let P = c .before .before .before .before .before .before .before .before .args .plan in
-    let xs = c .before .before .before .before .before .before .rows .ensures in
-    let s = l .inv .2 (P .x) (P .y) xs (c .before .before .before .before .rows2 .ensures) in
-    (omega arith, omega arith, scanned-stops s (l .inv .0) (reached .0) (reached .1) (reached .2))
+    let l = c .before .before .loop in
+    let P = c .before .before .before .before .before .before .before .args .plan in
+    let xs = c .before .before .before .before .before .rows .ensures in
+    let s = l .inv .3 (P .x) (P .y) xs (c .before .before .before .rows2 .ensures) in
+    let cleared = scanned-stops s (c .before .loop-test .taken) (omega arith) in
+    record { positive = omega arith; wide = omega arith; within = omega arith; cleared = cleared }
+
+along-requires : tie.Need-along-requires Inv-loop μ-loop
+along-requires c κs = (omega arith, omega arith)
+
+earlier-requires : tie.Need-earlier-requires Inv-loop μ-loop
+earlier-requires c κs = tt
 
 clear-requires : tie.Need-clear-requires Inv-loop μ-loop
 clear-requires c κs = omega arith
@@ -70,25 +74,30 @@ loop-less c = omega arith
 
 loop-again : tie.Need-loop-again Inv-loop μ-loop
 loop-again c =
-    let l = c .before .before .before .before .before .loop in
+    let l = c .before .before .before .before .before .before .loop in
     let reached = c .before .before .before .along .ensures in
-    let small : l .a + 1 ≤ 32 = omega arith in
-    let one : digit 2 (l .a) (getD (l .x) (l .a) 0) ≡ 1 = omega (arith, c .before .before .if1 .left) in (
-      small,
+    let moved = c .before .before .earlier .ensures in
+    let room : l .a < 32 = omega arith in
+    let small : l .top ≤ 32 = omega arith in
+    let r = c .before .before .before .along .result in
+    let one : digit 2 (l .a) (getD (l .x) (l .a) 0) ≡ 1 = omega (arith, c .before .before .before .before .if1 .left) in (
       omega arith,
-      λ X Y xs ys. rw (add-one (l .a)) (scanned-next (l .inv .2 X Y xs ys) (omega arith) (c .before .clear .result) (c .clear2 .result)
-          (reached .1) (reached .2) one (c .before .clear .ensures) (c .clear2 .ensures)),
+      omega arith,
+      earlier-within (l .top) (l .at) r (l .a) (c .before .before .earlier .result) moved (reached .0) (l .inv .2),
+      λ X Y xs ys. rw (add-one (l .a)) (scanned-next (l .inv .3 X Y xs ys) room (c .before .clear .result) (c .clear2 .result)
+          small (reached .1) (reached .2) moved one (c .before .clear .ensures) (c .clear2 .ensures)),
     )
 
-add-result-2 : tie.Need-add-result-2 Inv-loop μ-loop
-add-result-2 c = omega arith
+add-m-2 : tie.Need-add-m-2 Inv-loop μ-loop
+add-m-2 c = omega arith
 
 returns-2 : tie.Need-returns-2 Inv-loop μ-loop
 returns-2 c =
     let l = c .before .loop in
     let P = c .before .before .before .before .before .before .args .plan in
-    let s = l .inv .2 (P .x) (P .y) (c .before .before .before .before .rows .ensures) (c .before .before .rows2 .ensures) in
-    (omega arith, omega arith, scanned-all s (l .inv .0) (omega arith) (omega arith))
+    let s = l .inv .3 (P .x) (P .y) (c .before .before .before .before .rows .ensures) (c .before .before .rows2 .ensures) in
+    let cleared = scanned-all s (l .inv .0) (omega arith) (omega arith) in
+    record { positive = omega arith; wide = omega arith; within = omega arith; cleared = cleared }
 
 pub sure-spec : {M : Type 1} → statement M
 sure-spec =
@@ -99,17 +108,18 @@ sure-spec =
     rows-requires
     rows-requires-2
     loop-holds
-    along-requires
     cast-by
     mul-by
     array-read-by
     shr-if1
-    add-result
+    add-m
     returns
+    along-requires
+    earlier-requires
     clear-requires
     clear-requires-2
     add-a
     loop-less
     loop-again
-    add-result-2
+    add-m-2
     returns-2)

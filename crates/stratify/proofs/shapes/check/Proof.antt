@@ -61,15 +61,12 @@ sure-requires c κs = level-of _ (sym (c .before .before .unknown-level .ensures
 
 scan-requires : tie.Need-scan-requires
 scan-requires c κs =
-    let P = c .before .before .before .before .before .before .load .result .plan in
-    let sure = c .sure .ensures in (
+    let P = c .before .before .before .before .before .before .load .result .plan in (
       words-valid (P .x) (P .y)
           (λ t. let f : Fits w32 (getD (P .x) t 0) = search needs in f .fits)
           (λ t. let f : Fits w32 (getD (P .y) t 0) = search needs in f .fits),
       level-of _ (sym (c .before .before .before .unknown-level .ensures) ∙ c .before .before .if1 .left) .known,
-      sure .0,
-      sure .1,
-      sure .2,
+      c .sure .ensures,
     )
 
 returns-3 : tie.Need-returns-3

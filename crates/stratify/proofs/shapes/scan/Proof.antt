@@ -11,13 +11,13 @@ use Rattle.stratify.proofs.shapes.scan.Statement.{statement}
 use Rattle.stratify.proofs.shapes.scan.Tie as tie
 
 abbrev Inv-loop : tie.InvT-loop
-Inv-loop plan level from m₀ a₀ m a = (0 < m) × (a ≤ m) × (m ≤ level + 1) × Cleared (generators plan) m a
+Inv-loop plan level from at m₀ a₀ m a = (0 < m) × (a ≤ m) × (m ≤ level + 1) × Cleared (generators plan) m a
 
 abbrev μ-loop : tie.MeasureT-loop
-μ-loop plan level from m₀ a₀ m a = (33 - m) * 34 + (m - a)
+μ-loop plan level from at m₀ a₀ m a = (33 - m) * 34 + (m - a)
 
 loop-holds : tie.Need-loop-holds Inv-loop μ-loop
-loop-holds c = (omega arith, omega arith, omega arith, c .pre .4)
+loop-holds c = let s = c .pre .2 in (s .positive, s .wide, s .within, s .cleared)
 
 eliminate-requires : tie.Need-eliminate-requires Inv-loop μ-loop
 eliminate-requires c κs = record { valid = c .before .before .pre .0; wide = omega arith; fits = omega arith }
