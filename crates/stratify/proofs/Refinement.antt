@@ -203,7 +203,7 @@ module _ {L : ℕ → ℕ} (A : Additive 2 L) {m asked c : ℕ} {rest moved : Li
       (subst (λ (z : ℕ). Sweeps words indexes (c + 1) v k (added (getD words c 0) x (getD words c 0) x) (added (getD words c 0) x z y)) i
       (sweep-more words indexes v k c x y (sweeps-set (now .words) (now .indexes) c (getD rest c 0) (getD moved c 0) v k x y old)))))
 
-  pub pending-more : (rest′ moved′ : List ℕ) → getD rest c 0 ≢ 0 → Clears (getD rest c 0) (getD moved c 0) c (m + 1) rest moved rest′ moved′
+  pub pending-more : (rest′ moved′ : List ℕ) → getD rest c 0 ≢ 0 → Clears (getD rest c 0) (getD moved c 0) (c + 1) (m + 1) rest moved rest′ moved′
       → c < 32 → Pending L m asked (c + 1) rest′ moved′
   pending-more rest′ moved′ ne clears low = record {
     words = set (now .words) c (getD rest c 0);

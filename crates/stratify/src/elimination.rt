@@ -100,7 +100,7 @@ pub(crate) fn eliminate(plan: Plan, m: u32, a: u32, asked: u32) -> Elimination
                 index: 0,
             };
         }
-        clear(&mut words, &mut indexes, c, n, word, index);
+        clear(&mut words, &mut indexes, c + 1, n, word, index);
         c += 1;
     }
     Elimination {

@@ -96,6 +96,9 @@ slice-aggregate-clear c = sym (c .before .before .before .loop .inv .1 .0)
 slice-aggregate-clear-2 : tie.Need-slice-aggregate-clear-2 Inv-loop μ-loop
 slice-aggregate-clear-2 c = sym (c .before .before .before .before .loop .inv .1 .1)
 
+add-clear : tie.Need-add-clear Inv-loop μ-loop
+add-clear c = omega arith
+
 clear-requires : tie.Need-clear-requires Inv-loop μ-loop
 clear-requires c κs = let l = c .before .before .before .before .loop in
     let f = c .before .before .before .before .before .before .before .before .before .before .pre .fits in
@@ -153,6 +156,7 @@ eliminate-spec =
     returns
     slice-aggregate-clear
     slice-aggregate-clear-2
+    add-clear
     clear-requires
     add-c
     loop-less
