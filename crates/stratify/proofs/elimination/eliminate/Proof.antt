@@ -61,14 +61,7 @@ start c =
 loop-holds : tie.Need-loop-holds Inv-loop μ-loop
 loop-holds c =
     let p = c .before .before .put-columns in
-    let m = c .before .before .before .before .before .args .m in (
-      omega arith,
-      (
-        length-set (p .last .1 .1 .1 .0) m (c .before .before .before .before .before .args .asked) ∙ p .kept .1 .1 .1 .0,
-        length-set (p .last .1 .1 .1 .1 .0) m 0 ∙ p .kept .1 .1 .1 .1 .0,
-      ),
-      λ L A b. pending-none b,
-    )
+    (omega arith, (simp length-set (p .kept .1 .1 .1 .0), simp length-set (p .kept .1 .1 .1 .1 .0)), λ L A b. pending-none b)
 
 mul-word : tie.Need-mul-word Inv-loop μ-loop
 mul-word c = omega arith
