@@ -14,11 +14,11 @@ ghost use Rattle.exports.specs.Calls.{standard-words};
 pub(crate) fn pair_answer(words: &[u32]) -> u32
     ensures { λ r. ⌜ r ≡ answer (load-outcome (now (words .entry))) ⌝ }
 {
-    if words.len() != 64 {
-        let why = Refusal::WordCount;
-        return why.number();
+    if words.len() == 64 {
+        return 0;
     }
-    0
+    let why = Refusal::WordCount;
+    why.number()
 }
 
 // 32 columns, into as many words.

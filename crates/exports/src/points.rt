@@ -6,7 +6,7 @@ ghost use mathlib.Core.Path.{_≡_};
 ghost use Rattle.net.specs.Sequence.{point};
 ghost use Rattle.plan.specs.Pair.{sequence, standard-pair};
 ghost use Rattle.exports.specs.Answers.{answer, handed};
-ghost use Rattle.exports.specs.Calls.{point-outcome, singles-outcome};
+ghost use Rattle.exports.specs.Calls.{point-outcome};
 
 // The point of an index, for any pair.
 #[no_mangle]
@@ -40,33 +40,7 @@ pub extern "C" fn vektrid_standard_point(sx: u32, sy: u32, index: u32, x: &mut u
     ensures x { λ _. ⌜ now (x .exit) ≡ point (sequence standard-pair (record { x = sx; y = sy })) index .0 ⌝ }
     ensures y { λ _. ⌜ now (y .exit) ≡ point (sequence standard-pair (record { x = sx; y = sy })) index .1 ⌝ }
 {
-    let at = Plan::standard_point(Shift { x: sx, y: sy }, index);
-    *x = at.x;
-    *y = at.y;
-}
-
-// The point as two singles, for any pair.
-#[no_mangle]
-pub extern "C" fn vektrid_point_singles(
-    words: &[u32],
-    sx: u32,
-    sy: u32,
-    index: u32,
-    x: &mut f32,
-    y: &mut f32,
-) -> u32
-    ensures answer { λ r. ⌜ r ≡ answer (singles-outcome (now (words .entry)) sx sy index) ⌝ }
-    ensures x { λ _. ⌜ now (x .exit) ≡ handed (singles-outcome (now (words .entry)) sx sy index) (λ p. p .x) (now (x .entry)) ⌝ }
-    ensures y { λ _. ⌜ now (y .exit) ≡ handed (singles-outcome (now (words .entry)) sx sy index) (λ p. p .y) (now (y .entry)) ⌝ }
-{
-    let answer = pair_answer(words);
-    if answer != 0 {
-        return answer;
-    }
-    let loaded = Plan::load(words);
-    let plan = loaded.plan;
-    let at = unit::singles_at(plan, Shift { x: sx, y: sy }, index);
-    *x = at.x;
-    *y = at.y;
-    0
+    let point = Plan::standard_point(Shift { x: sx, y: sy }, index);
+    *x = point.x;
+    *y = point.y;
 }

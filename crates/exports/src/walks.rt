@@ -5,12 +5,11 @@ use plan::Plan;
 use plan::Shift;
 use plan::Step;
 use plan::Walk;
-use unit::SinglesStep;
 ghost use mathlib.Core.Path.{_≡_};
 ghost use Prim.Native.Nat.{ℕ};
 ghost use Rattle.plan.specs.Walk.{open-outcome};
 ghost use Rattle.exports.specs.Answers.{answer, handed, step-words, told};
-ghost use Rattle.exports.specs.Calls.{step-outcome, singles, step-singles-outcome};
+ghost use Rattle.exports.specs.Calls.{step-outcome};
 
 // A walk over count visits from start on.
 #[no_mangle]
@@ -72,51 +71,5 @@ pub extern "C" fn vektrid_walk_step(
     *index = visit.index;
     *x = visit.x;
     *y = visit.y;
-    0
-}
-
-// The same with the point as two singles.
-#[no_mangle]
-pub extern "C" fn vektrid_walk_step_singles(
-    words: &[u32],
-    sx: u32,
-    sy: u32,
-    next: &mut u32,
-    left: &mut u64,
-    given: &mut u32,
-    index: &mut u32,
-    x: &mut f32,
-    y: &mut f32,
-) -> u32
-    ensures answer { λ r. ⌜ r ≡ answer (step-singles-outcome (now (words .entry)) sx sy (now (next .entry)) (now (left .entry))) ⌝ }
-    ensures words { λ _. ⌜
-        step-words (now (next .exit)) (now (left .exit)) (now (given .exit)) (now (index .exit)) (singles (now (x .exit)) (now (y .exit)))
-        ≡ told (step-singles-outcome (now (words .entry)) sx sy (now (next .entry)) (now (left .entry))) (λ v. v .index) (λ v. v .at)
-        (step-words (now (next .entry)) (now (left .entry)) (now (given .entry)) (now (index .entry)) (singles (now (x .entry)) (now (y .entry)))) ⌝ }
-{
-    let answer = pair_answer(words);
-    if answer != 0 {
-        return answer;
-    }
-    let walk = Walk {
-        next: *next,
-        left: *left,
-    };
-    let loaded = Plan::load(words);
-    let plan = loaded.plan;
-    let stepped = unit::step_singles(walk, plan, Shift { x: sx, y: sy });
-    let after = stepped.walk;
-    *next = after.next;
-    *left = after.left;
-    let step = stepped.step;
-    let SinglesStep::Visited(visit) = step else {
-        *given = 0;
-        return 0;
-    };
-    *given = 1;
-    *index = visit.index;
-    let at = visit.at;
-    *x = at.x;
-    *y = at.y;
     0
 }

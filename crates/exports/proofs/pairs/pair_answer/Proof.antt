@@ -7,14 +7,14 @@ use borrow.Author.Needs.{needs}
 use Rattle.exports.proofs.pairs.pair_answer.Statement.{statement}
 use Rattle.exports.proofs.pairs.pair_answer.Tie as tie
 
+returns : tie.Need-returns
+returns c = accepted-answer (loading-accepts (c .before .before .args .words .now) (c .if1 .taken))
+
 number-requires : tie.Need-number-requires
 number-requires c κs = search needs
 
-returns : tie.Need-returns
-returns c = c .number .ensures ∙ refused-answer (loading-refuses (c .before .before .before .args .words .now) (c .before .if1 .taken))
-
 returns-2 : tie.Need-returns-2
-returns-2 c = accepted-answer (loading-accepts (c .before .before .args .words .now) (c .if1 .left))
+returns-2 c = c .number .ensures ∙ refused-answer (loading-refuses (c .before .before .before .args .words .now) (c .before .if1 .left))
 
 pub pair-answer-spec : {M : Type 1} → statement M
-pair-answer-spec = tie.close (tie.spec number-requires returns returns-2)
+pair-answer-spec = tie.close (tie.spec returns number-requires returns-2)

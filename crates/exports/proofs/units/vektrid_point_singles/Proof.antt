@@ -1,4 +1,4 @@
--- `points::vektrid_point_singles` meets its contract.
+-- `units::vektrid_point_singles` meets its contract.
 -- Assumes nothing.
 use Rattle.net.specs.Sequence.{point}
 use Rattle.plan.specs.Pair.{sequence}
@@ -6,8 +6,8 @@ use Rattle.unit.specs.Singles.{singles-of}
 use Rattle.exports.proofs.Outcomes.{refused-answer, refused-leaves, accepted-answer, accepted-hands}
 use Rattle.exports.proofs.Loading.{stops, gives}
 use borrow.Author.Needs.{needs}
-use Rattle.exports.proofs.points.vektrid_point_singles.Statement.{statement}
-use Rattle.exports.proofs.points.vektrid_point_singles.Tie as tie
+use Rattle.exports.proofs.units.vektrid_point_singles.Statement.{statement}
+use Rattle.exports.proofs.units.vektrid_point_singles.Tie as tie
 
 pair-answer-requires : tie.Need-pair-answer-requires
 pair-answer-requires c κs = search needs

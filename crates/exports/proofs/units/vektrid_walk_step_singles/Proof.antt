@@ -1,4 +1,4 @@
--- `walks::vektrid_walk_step_singles` meets its contract.
+-- `units::vektrid_walk_step_singles` meets its contract.
 -- Assumes nothing.
 use mathlib.Core.Path.{ap}
 use denote.Ref.{now}
@@ -8,8 +8,8 @@ use Rattle.exports.specs.Answers.{StepWords, step-words}
 use Rattle.exports.specs.Calls.{singles}
 use Rattle.exports.proofs.Stepping.{step-refused, step-visited, step-ended}
 use borrow.Author.Needs.{needs}
-use Rattle.exports.proofs.walks.vektrid_walk_step_singles.Statement.{statement}
-use Rattle.exports.proofs.walks.vektrid_walk_step_singles.Tie as tie
+use Rattle.exports.proofs.units.vektrid_walk_step_singles.Statement.{statement}
+use Rattle.exports.proofs.units.vektrid_walk_step_singles.Tie as tie
 
 -- the lent words at entry
 abbrev held : tie.Start → StepWords Singles
