@@ -6,7 +6,6 @@ use Prim.Native.Nat.{ℕ, zero, suc, _+_, _*_, _/_, _%_, _≤_, _<_, _∣_}
 use native.Mathlib.Nat.{mul-zero, mul-one, dvd-zero, dvd-of-mod-eq-zero, mod-eq-zero-of-dvd}
 use native.Mathlib.Omega.{arith}
 use lib.Bits.{bitXor}
-use lib.ListN.{getD}
 use Rattle.digits.specs.Digits.{digit}
 use Rattle.digits.proofs.Digit.{digit-lt, digit-zero}
 use Rattle.digits.proofs.Two.{one-lt-two, digit-xor}

@@ -10,12 +10,12 @@ use lib.ListN.{getD}
 use Rattle.digits.specs.Digits.{digit}
 use Rattle.linear.specs.Matrix.{Matrix}
 use Rattle.linear.proofs.Cases.{lt-or-ge}
-use Rattle.net.specs.Generators.{Generators, entry}
+use Rattle.net.specs.Generators.{entry}
 use Rattle.net.specs.Shape.{matrix}
 use Rattle.net.specs.Check.{Cleared}
 use Rattle.plan.specs.Pair.{pair}
 use Rattle.stratify.specs.Minors.{AllCleared, Left, Lefts, Pivots, Reaches, Earlier, AreRows}
-use Rattle.stratify.proofs.Pivots.{left-none, left-next, lefts-next, pivots-next, pivots-nonzero, left-same, pivots-same}
+use Rattle.stratify.proofs.Pivots.{left-none, lefts-next, pivots-next, pivots-nonzero, left-same, pivots-same}
 
 -- ---- one a: from the words that its first a rows leave, the rows up to m are reduced, and the words in hand are what they leave
 

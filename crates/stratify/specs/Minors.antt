@@ -2,7 +2,7 @@
 -- above them. No public contract cites this file.
 use mathlib.Core.Path.{_≡_}
 use mathlib.Core.List.{List}
-use Prim.Native.Nat.{ℕ, suc, _+_, _*_, _%_, _≤_, _<_}
+use Prim.Native.Nat.{ℕ, _+_, _*_, _%_, _≤_, _<_}
 use lib.Bits.{bitXor}
 use lib.ListN.{getD}
 use Rattle.digits.specs.Digits.{digit}
@@ -30,7 +30,7 @@ pub record Left (A : Matrix) (n r w : ℕ) : Type 0 where
 abbrev pub Lefts : Matrix → ℕ → ℕ → List ℕ → Type 0
 Lefts A n s words = (t : ℕ) → t < 32 → Left A n (s + t) (getD words t 0)
 
--- each of the first m rows leaves a one on the diagonal
+-- row k leaves a one on the diagonal, and each of the first m rows does
 pub record Pivot (A : Matrix) (k : ℕ) : Type 0 where
   pub word : ℕ
   pub left : Left A k k word

@@ -74,13 +74,14 @@ fn earlier(top: u32, at: u32, r: u32, a: u32) -> u32
     if r < top { a } else { at }
 }
 
-// A shape.
+// A shape, by its size and the number of its rows of X.
 pub(crate) struct Start {
     pub m: u32,
     pub a: u32,
 }
 
-// A shape before which all are nets, up to the size after the level: the first that is not, or the one before it in its size.
+// A shape before which all are nets. The first that is none, if there is one up to the level, is this one or close after it, or else the
+// scan that starts here is slower, not wrong.
 pub(crate) fn sure(plan: Plan, level: u32) -> Start
     requires { ⌜ level ≤ largest-level ⌝ }
     ensures { λ r. ⌜ Starts (generators plan) level (r .m) (r .a) ⌝ }

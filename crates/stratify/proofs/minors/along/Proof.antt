@@ -1,6 +1,6 @@
 -- `stratify::minors::along` meets its contract: after each turn one more row is reduced. Assumes nothing.
 use mathlib.Core.Path.{_≡_}
-use Prim.Native.Nat.{ℕ, _-_, _≤_, _<_}
+use Prim.Native.Nat.{_-_, _≤_, _<_}
 use native.Mathlib.Omega.{arith}
 use lib.ListN.{getD}
 use Rattle.digits.specs.Digits.{digit}

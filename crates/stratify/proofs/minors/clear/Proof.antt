@@ -4,8 +4,6 @@ use Prim.Native.Nat.{ℕ, _-_, _≤_, _<_}
 use native.Mathlib.Omega.{arith}
 use borrow.Author.Needs.{needs}
 use lib.ListN.{length, getD, length-set}
-use mir.Syntax.{w32}
-use mir.Val.{Fits}
 use Rattle.word.proofs.Turn.{times-bit-fits}
 use Rattle.stratify.specs.Minors.{cleared}
 use Rattle.stratify.proofs.Transposed.{written}
