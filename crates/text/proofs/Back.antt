@@ -19,7 +19,7 @@ value-last before [] d = refl
 value-last before (e ∷ ds) d = value-last (before * 10 + (e - 48)) ds d
 
 -- a digit fewer
-fewer : (f n : ℕ) → n < 10 ^ suc (suc f) → n / 10 < 10 ^ suc f
+pub fewer : (f n : ℕ) → n < 10 ^ suc (suc f) → n / 10 < 10 ^ suc f
 fewer f n h = let p : 10 ^ suc (suc f) ≡ 10 ^ suc f * 10 = pow-suc 10 (suc f) in div-lt-iff-lt-mul (lit< tt) .1 (omega (arith, p, h))
 
 -- n of at most f + 1 digits

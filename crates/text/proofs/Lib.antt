@@ -2,5 +2,6 @@ pub mod Puts
 pub mod Numbers
 pub mod Signs
 pub mod Back
+pub mod Parts
 pub mod Joins
 pub mod Theorem

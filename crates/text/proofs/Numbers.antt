@@ -11,23 +11,6 @@ use lib.ListN.{length, length-append}
 use borrow.Author.Tests.{lt-ltb, le-ltb}
 use Rattle.text.specs.Decimal.{decimal-in, decimal, sign, number-text, signed-text, longest-number, longest-signed}
 
-pub digits-last : (f n : ℕ) → f ≡ 0 → decimal-in f n ≡ (48 + n % 10) ∷ []
-unfolding decimal-in
-digits-last f n e = ap (λ (k : ℕ). decimal-in k n) e
-
-pub digits-one : (f n : ℕ) → (f ≡ 0 → ⊥) → n < 10 → decimal-in f n ≡ (48 + n) ∷ []
-unfolding decimal-in
-digits-one zero n e h = absurd (e refl)
-digits-one (suc f) n e h = simp (lt-ltb n 10 h)
-
-pub digits-more : (f n : ℕ) → (f ≡ 0 → ⊥) → 10 ≤ n → decimal-in f n ≡ decimal-in (f - 1) (n / 10) ++ ((48 + n % 10) ∷ [])
-unfolding decimal-in
-digits-more zero n e h = absurd (e refl)
-digits-more (suc f) n e h = simp (le-ltb n 10 h) (ap (λ (k : ℕ). decimal-in k (n / 10) ++ ((48 + n % 10) ∷ [])) (one f))
-  where
-    one : (f : ℕ) → f ≡ suc f - 1
-    one f = omega arith
-
 decimal-length : (f n : ℕ) → length (decimal-in f n) ≤ suc f
 unfolding decimal-in
 decimal-length zero n = omega arith

@@ -1,5 +1,5 @@
 -- Numbers in decimal, as bytes of ASCII.
-use Prim.Native.Nat.{ℕ, zero, suc, _+_, _/_, _%_}
+use Prim.Native.Nat.{ℕ, zero, suc, _+_, _*_, _/_, _%_}
 use mathlib.Core.Bool.{cond}
 use mathlib.Core.List.{List, [], _∷_, _++_}
 use lib.Dec.{ltb}
@@ -13,6 +13,18 @@ decimal-in (suc f) n = cond (ltb n 10) ((48 + n) ∷ []) (decimal-in f (n / 10) 
 -- ten digits hold every word of 32 bits (`Theorem`)
 abbrev pub decimal : ℕ → List ℕ
 decimal n = decimal-in 9 n
+
+-- the two digits of a number below 100
+abbrev pub pair : ℕ → List ℕ
+pair n = (48 + n / 10) ∷ (48 + n % 10) ∷ []
+
+-- the same in a word of two bytes, the first digit in the lowest byte
+abbrev pub pair-word : ℕ → ℕ
+pair-word n = 48 + n / 10 + (48 + n % 10) * 256
+
+-- the four digits of a number below 10000
+abbrev pub four : ℕ → List ℕ
+four n = pair (n / 100) ++ pair (n % 100)
 
 -- `-` before a negative number, and nothing before another
 abbrev pub sign : ℤ → List ℕ

@@ -1,35 +1,53 @@
 // Decimal digits and signs, where there is room for them.
+use crate::groups::put_byte;
+use crate::groups::put_four;
+use crate::groups::put_pair;
 ghost use mathlib.Core.Path.{_≡_};
-ghost use mathlib.Core.List.{_∷_, []};
 ghost use Prim.Native.Nat.{_+_, _≤_, _<_};
 ghost use lib.ListN.{length};
 ghost use lib.IntN.{natAbs};
-ghost use Rattle.text.specs.Decimal.{decimal-in, decimal, sign, number-text};
+ghost use Rattle.text.specs.Decimal.{decimal, sign, number-text};
 ghost use Rattle.text.specs.Put.{put};
 
-fn put_byte(b: u8, out: &mut [u8], at: usize) -> usize
-    requires { ⌜ at < length (now out) ⌝ }
-    ensures end { λ r. ⌜ r ≡ at + 1 ⌝ }
-    ensures text { λ _. ⌜ now (out .exit) ≡ put (now (out .entry)) at (b ∷ []) ⌝ }
+// A number of at most two digits.
+fn put_to_two(n: u32, out: &mut [u8], at: usize) -> usize
+    requires { ⌜ n < 100 ⌝ }
+    requires { ⌜ at + length (decimal n) ≤ length (now out) ⌝ }
+    ensures end { λ r. ⌜ r ≡ at + length (decimal n) ⌝ }
+    ensures text { λ _. ⌜ now (out .exit) ≡ put (now (out .entry)) at (decimal n) ⌝ }
 {
-    out[at] = b;
-    at + 1
-}
-
-// At most f + 1 digits.
-fn put_digits(n: u32, f: u32, out: &mut [u8], at: usize) -> usize
-    requires { ⌜ at + length (decimal-in f n) ≤ length (now out) ⌝ }
-    ensures end { λ r. ⌜ r ≡ at + length (decimal-in f n) ⌝ }
-    ensures text { λ _. ⌜ now (out .exit) ≡ put (now (out .entry)) at (decimal-in f n) ⌝ }
-{
-    if f == 0 {
-        return put_byte(48 + (n % 10) as u8, out, at);
-    }
     if n < 10 {
         return put_byte(48 + n as u8, out, at);
     }
-    let next = put_digits(n / 10, f - 1, out, at);
-    put_byte(48 + (n % 10) as u8, out, next)
+    put_pair(n, out, at)
+}
+
+// A number of at most four digits.
+fn put_to_four(n: u32, out: &mut [u8], at: usize) -> usize
+    requires { ⌜ n < 10000 ⌝ }
+    requires { ⌜ at + length (decimal n) ≤ length (now out) ⌝ }
+    ensures end { λ r. ⌜ r ≡ at + length (decimal n) ⌝ }
+    ensures text { λ _. ⌜ now (out .exit) ≡ put (now (out .entry)) at (decimal n) ⌝ }
+{
+    if n < 100 {
+        return put_to_two(n, out, at);
+    }
+    let next = put_to_two(n / 100, out, at);
+    put_pair(n % 100, out, next)
+}
+
+// A number of at most eight digits.
+fn put_to_eight(n: u32, out: &mut [u8], at: usize) -> usize
+    requires { ⌜ n < 100000000 ⌝ }
+    requires { ⌜ at + length (decimal n) ≤ length (now out) ⌝ }
+    ensures end { λ r. ⌜ r ≡ at + length (decimal n) ⌝ }
+    ensures text { λ _. ⌜ now (out .exit) ≡ put (now (out .entry)) at (decimal n) ⌝ }
+{
+    if n < 10000 {
+        return put_to_four(n, out, at);
+    }
+    let next = put_to_four(n / 10000, out, at);
+    put_four(n % 10000, out, next)
 }
 
 fn put_decimal(n: u32, out: &mut [u8], at: usize) -> usize
@@ -37,7 +55,11 @@ fn put_decimal(n: u32, out: &mut [u8], at: usize) -> usize
     ensures end { λ r. ⌜ r ≡ at + length (decimal n) ⌝ }
     ensures text { λ _. ⌜ now (out .exit) ≡ put (now (out .entry)) at (decimal n) ⌝ }
 {
-    put_digits(n, 9, out, at)
+    if n < 100000000 {
+        return put_to_eight(n, out, at);
+    }
+    let next = put_to_eight(n / 10000, out, at);
+    put_four(n % 10000, out, next)
 }
 
 // A number and the byte after it.

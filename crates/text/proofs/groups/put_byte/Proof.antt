@@ -1,11 +1,11 @@
--- `numerals::put_byte` meets its contract.
+-- `groups::put_byte` meets its contract.
 -- Assumes nothing.
 use mathlib.Core.Path.{refl}
 use denote.Ref.{now}
 use Rattle.text.proofs.Puts.{put-one}
 use borrow.Author.Needs.{needs}
-use Rattle.text.proofs.numerals.put_byte.Statement.{statement}
-use Rattle.text.proofs.numerals.put_byte.Tie as tie
+use Rattle.text.proofs.groups.put_byte.Statement.{statement}
+use Rattle.text.proofs.groups.put_byte.Tie as tie
 
 slice-write-out : tie.Need-slice-write-out
 slice-write-out c = search needs

@@ -1,0 +1,110 @@
+-- The digits of a number by groups: the last two or four, and those before them.
+-- Assumes nothing.
+use mathlib.Core.Path.{_≡_, sym, ap, ap₂, _∙_, subst}
+use mathlib.Core.Bool.{cond}
+use mathlib.Core.List.{List, [], _∷_, _++_, append-assoc}
+use Prim.Native.Nat.{ℕ, zero, suc, _+_, _*_, _/_, _%_, _-_, _^_, _≤_, _<_}
+use native.Mathlib.Nat.{mod-eq-of-lt, mul-add-mod-self-right}
+use native.Mathlib.Omega.{arith}
+use lib.Dec.{ltb}
+use lib.ListN.{length, length-append}
+use borrow.Author.Tests.{lt-ltb, le-ltb}
+use Rattle.text.specs.Decimal.{decimal-in, decimal, pair, pair-word, four}
+use Rattle.text.proofs.Puts.{Put, put-then}
+use Rattle.text.proofs.Back.{fewer}
+
+one : (f n : ℕ) → n < 10 → decimal-in (suc f) n ≡ (48 + n) ∷ []
+unfolding decimal-in
+one f n h = simp (lt-ltb n 10 h)
+
+more : (f n : ℕ) → 10 ≤ n → decimal-in (suc f) n ≡ decimal-in f (n / 10) ++ ((48 + n % 10) ∷ [])
+unfolding decimal-in
+more f n h = simp (le-ltb n 10 h)
+
+-- room for more digits than there are changes nothing
+enough : (f n : ℕ) → n < 10 ^ suc f → decimal-in (suc f) n ≡ decimal-in f n
+unfolding decimal-in
+enough zero n h = let e : n ≡ n % 10 = omega arith in one zero n (omega arith) ∙ ap (λ (k : ℕ). (48 + k) ∷ []) e
+enough (suc f) n h = ap (λ (s : List ℕ). cond (ltb n 10) ((48 + n) ∷ []) (s ++ ((48 + n % 10) ∷ []))) (enough f (n / 10) (fewer f n h))
+
+pub decimal-one : (n : ℕ) → n < 10 → decimal n ≡ (48 + n) ∷ []
+decimal-one n h = one 8 n h
+
+decimal-more : (n : ℕ) → 10 ≤ n → n < 2 ^ 32 → decimal n ≡ decimal (n / 10) ++ ((48 + n % 10) ∷ [])
+decimal-more n h l = let b : n / 10 < 10 ^ 9 = omega arith in more 8 n h ∙ ap (λ (s : List ℕ). s ++ ((48 + n % 10) ∷ [])) (sym (enough 8 (n / 10) b))
+
+pub decimal-two : (n : ℕ) → 10 ≤ n → n < 100 → decimal n ≡ pair n
+decimal-two n h l =
+    let b : n / 10 < 10 = omega arith in
+    let s : n < 2 ^ 32 = omega arith in
+    decimal-more n h s ∙ ap (λ (s : List ℕ). s ++ ((48 + n % 10) ∷ [])) (decimal-one (n / 10) b)
+
+pub decimal-pair : (n : ℕ) → 100 ≤ n → n < 2 ^ 32 → decimal n ≡ decimal (n / 100) ++ pair (n % 100)
+decimal-pair n h l =
+    let b : 10 ≤ n / 10 = omega arith in
+    let s : n / 10 < 2 ^ 32 = omega arith in
+    let p : n / 10 / 10 ≡ n / 100 = omega arith in
+    let q : n / 10 % 10 ≡ n % 100 / 10 = omega arith in
+    let r : n % 10 ≡ n % 100 % 10 = omega arith in
+    let d : 10 ≤ n = omega arith in
+    decimal-more n d l
+    ∙ ap (λ (s : List ℕ). s ++ ((48 + n % 10) ∷ [])) (decimal-more (n / 10) b s)
+    ∙ append-assoc (decimal (n / 10 / 10)) ((48 + n / 10 % 10) ∷ []) ((48 + n % 10) ∷ [])
+    ∙ ap₂ (λ (k : ℕ) (s : List ℕ). decimal k ++ s) p (ap₂ (λ (x y : ℕ). (48 + x) ∷ (48 + y) ∷ []) q r)
+
+pub decimal-four : (n : ℕ) → 10000 ≤ n → n < 2 ^ 32 → decimal n ≡ decimal (n / 10000) ++ four (n % 10000)
+decimal-four n h l =
+    let b : 100 ≤ n / 100 = omega arith in
+    let s : n / 100 < 2 ^ 32 = omega arith in
+    let p : n / 100 / 100 ≡ n / 10000 = omega arith in
+    let q : n / 100 % 100 ≡ n % 10000 / 100 = omega arith in
+    let r : n % 100 ≡ n % 10000 % 100 = omega arith in
+    let d : 100 ≤ n = omega arith in
+    decimal-pair n d l
+    ∙ ap (λ (s : List ℕ). s ++ pair (n % 100)) (decimal-pair (n / 100) b s)
+    ∙ append-assoc (decimal (n / 100 / 100)) (pair (n / 100 % 100)) (pair (n % 100))
+    ∙ ap₂ (λ (k : ℕ) (s : List ℕ). decimal k ++ s) p (ap₂ (λ (x y : ℕ). pair x ++ pair y) q r)
+
+pub pair-length : (n : ℕ) → 100 ≤ n → n < 2 ^ 32 → length (decimal n) ≡ length (decimal (n / 100)) + 2
+pair-length n h l = ap length (decimal-pair n h l) ∙ length-append (decimal (n / 100)) (pair (n % 100))
+
+pub four-length : (n : ℕ) → 10000 ≤ n → n < 2 ^ 32 → length (decimal n) ≡ length (decimal (n / 10000)) + 4
+four-length n h l = ap length (decimal-four n h l) ∙ length-append (decimal (n / 10000)) (four (n % 10000))
+
+-- the bytes of a word that holds two digits
+pub pair-bytes : (w n : ℕ) → n < 100 → w ≡ pair-word n → (w % 256) ∷ (w / 256) ∷ [] ≡ pair n
+pair-bytes w n h e =
+    let x : w % 256 ≡ 48 + n / 10 = omega arith in
+    let y : w / 256 ≡ 48 + n % 10 = omega arith in
+    ap₂ (λ (p q : ℕ). p ∷ q ∷ []) x y
+
+words : (p q : ℕ) → 808464432 + 256 * (p + 65536 * q) - 2559 * (q / 10 * 65536 + p / 10) ≡ pair-word p + pair-word q * 65536
+words p q = omega arith
+
+-- two pairs side by side: 103 parts of 1024 of both at once have a tenth of each
+pub two-pairs : (p q : ℕ) → p < 100 → q < 100 → let w = (p + 65536 * q) * 103 / 1024 in
+    808464432 + 256 * (p + 65536 * q) - 2559 * (w / 65536 * 65536 + w % 16) ≡ pair-word p + pair-word q * 65536
+two-pairs p q g h =
+    let w = (p + 65536 * q) * 103 / 1024 in
+    let a : p * 103 / 1024 ≡ p / 10 = omega arith in
+    let b : q * 103 / 1024 ≡ q / 10 = omega arith in
+    let e : w ≡ q * 412 * 16 + p / 10 = omega (arith, a) in
+    let s : p / 10 < 16 = omega arith in
+    let low = ap (λ (k : ℕ). k % 16) e ∙ mul-add-mod-self-right (q * 412) 16 (p / 10) ∙ mod-eq-of-lt s in
+    let high : w / 65536 ≡ q / 10 = omega (arith, e, b) in
+    let t : w / 65536 * 65536 + w % 16 ≡ q / 10 * 65536 + p / 10 = ap₂ (λ (x y : ℕ). x * 65536 + y) high low in
+    ap (λ (k : ℕ). 808464432 + 256 * (p + 65536 * q) - 2559 * k) t ∙ words p q
+
+-- a text in two parts
+put-parts : (d : List ℕ) (at : ℕ) (s t u : List ℕ) (r : ℕ) (e : List ℕ) (r′ : ℕ) (e′ : List ℕ)
+    → u ≡ s ++ t → Put d at s r e → Put e r t r′ e′ → at + length u ≤ length d → Put d at u r′ e′
+put-parts d at s t u r e r′ e′ w p q h =
+    let l : at + length s + length t ≤ length d = omega (arith, h, ap length w, length-append s t) in
+    subst (λ (x : List ℕ). Put d at x r′ e′) (sym w) (put-then d at s t r e r′ e′ p q l)
+
+module _ (d : List ℕ) (at n r : ℕ) (e : List ℕ) (r′ : ℕ) (e′ : List ℕ) (l : n < 2 ^ 32) (h : at + length (decimal n) ≤ length d) where
+  pub put-with-pair : 100 ≤ n → Put d at (decimal (n / 100)) r e → Put e r (pair (n % 100)) r′ e′ → Put d at (decimal n) r′ e′
+  put-with-pair b p q = put-parts d at (decimal (n / 100)) (pair (n % 100)) (decimal n) r e r′ e′ (decimal-pair n b l) p q h
+
+  pub put-with-four : 10000 ≤ n → Put d at (decimal (n / 10000)) r e → Put e r (four (n % 10000)) r′ e′ → Put d at (decimal n) r′ e′
+  put-with-four b p q = put-parts d at (decimal (n / 10000)) (four (n % 10000)) (decimal n) r e r′ e′ (decimal-four n b l) p q h

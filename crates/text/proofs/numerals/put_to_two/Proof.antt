@@ -1,0 +1,61 @@
+-- `numerals::put_to_two` meets its contract.
+-- Assumes nothing.
+use mathlib.Core.Path.{sym, ap, subst}
+use mathlib.Core.List.{List}
+use Prim.Native.Nat.{ℕ}
+use native.Mathlib.Omega.{arith}
+use denote.Ref.{now}
+use lib.ListN.{length}
+use Rattle.text.proofs.Puts.{Put}
+use Rattle.text.proofs.Parts.{decimal-one, decimal-two}
+use borrow.Author.Needs.{needs}
+use Rattle.text.proofs.numerals.put_to_two.Statement.{statement}
+use Rattle.text.proofs.numerals.put_to_two.Tie as tie
+
+cast-put-byte : tie.Need-cast-put-byte
+cast-put-byte c = search needs
+
+add-put-byte : tie.Need-add-put-byte
+add-put-byte c = search needs
+
+put-byte-requires : tie.Need-put-byte-requires
+put-byte-requires c κs =
+    let a = c .before .before .before .args in
+    omega (arith, c .before .before .before .pre .1, ap length (decimal-one (a .n) (c .before .if1 .taken)))
+
+same-length : tie.Need-same-length
+same-length c = search needs
+
+returns : tie.Need-returns
+returns c =
+    let a = c .before .before .before .before .before .before .args in
+    let u = c .before .before .put-byte in
+    subst (λ (s : List ℕ). Put (now (a .out)) (a .at) s (u .result) (u .last .1 .0)) (sym (decimal-one (a .n) (c .before .before .before .before .if1 .taken))) (u .ensures)
+
+put-pair-requires : tie.Need-put-pair-requires
+put-pair-requires c κs =
+    let a = c .before .before .before .args in
+    (c .before .before .before .pre .0, omega (arith, c .before .before .before .pre .1, ap length (decimal-two (a .n) (c .before .if1 .left) (c .before .before .before .pre .0))))
+
+same-length-2 : tie.Need-same-length-2
+same-length-2 c = search needs
+
+returns-2 : tie.Need-returns-2
+returns-2 c =
+    let a = c .before .before .before .before .before .before .args in
+    let u = c .before .before .put-pair in
+    subst (λ (s : List ℕ). Put (now (a .out)) (a .at) s (u .result) (u .last .1 .0))
+    (sym (decimal-two (a .n) (c .before .before .before .before .if1 .left) (c .before .before .before .before .before .before .pre .0))) (u .ensures)
+
+pub put-to-two-spec : {M : Type 1} → statement M
+put-to-two-spec =
+    tie.close
+    (tie.spec
+    cast-put-byte
+    add-put-byte
+    put-byte-requires
+    same-length
+    returns
+    put-pair-requires
+    same-length-2
+    returns-2)
