@@ -7,7 +7,8 @@ use native.Mathlib.Omega.{arith}
 use lib.ListN.{length, take, drop, length-append}
 use lib.Seq.{drop-drop}
 use Rattle.text.specs.Decimal.{number-text, signed-text, longest-number, longest-signed}
-use Rattle.text.proofs.Puts.{Put, Wrote, take-put, drop-put, put-keeps, put-then, wrote-put}
+use Rattle.text.specs.Put.{Put}
+use Rattle.text.proofs.Puts.{Wrote, take-put, drop-put, put-keeps, put-then, wrote-put}
 use Rattle.text.proofs.Numbers.{number-length, number-longest, signed-longest}
 use Rattle.visits.specs.declared.place.Visit.{Visit}
 use Rattle.listing.specs.Listing.{refused-word, refused-text, line, longest-line, lines}

@@ -10,7 +10,8 @@ use lib.Dec.{ltb}
 use lib.ListN.{length, length-append}
 use borrow.Author.Tests.{lt-ltb, le-ltb}
 use Rattle.text.specs.Decimal.{decimal-in, decimal, pair, pair-word, four}
-use Rattle.text.proofs.Puts.{Put, put-then}
+use Rattle.text.specs.Put.{Put}
+use Rattle.text.proofs.Puts.{put-then}
 use Rattle.text.proofs.Back.{fewer}
 
 one : (f n : ℕ) → n < 10 → decimal-in (suc f) n ≡ (48 + n) ∷ []
@@ -39,31 +40,22 @@ decimal-two n h l =
     let s : n < 2 ^ 32 = omega arith in
     decimal-more n h s ∙ ap (λ (s : List ℕ). s ++ ((48 + n % 10) ∷ [])) (decimal-one (n / 10) b)
 
+-- a number m without its last part c, and without the part b before it
+parts : (g : ℕ → List ℕ) (n m k b c : ℕ) → decimal n ≡ decimal m ++ g c → decimal m ≡ decimal k ++ g b
+    → (k′ b′ c′ : ℕ) → k ≡ k′ → b ≡ b′ → c ≡ c′ → decimal n ≡ decimal k′ ++ (g b′ ++ g c′)
+parts g n m k b c p q k′ b′ c′ x y z =
+    p ∙ ap (λ (s : List ℕ). s ++ g c) q ∙ append-assoc (decimal k) (g b) (g c)
+    ∙ ap₂ (λ (i : ℕ) (s : List ℕ). decimal i ++ s) x (ap₂ (λ (i j : ℕ). g i ++ g j) y z)
+
 pub decimal-pair : (n : ℕ) → 100 ≤ n → n < 2 ^ 32 → decimal n ≡ decimal (n / 100) ++ pair (n % 100)
 decimal-pair n h l =
-    let b : 10 ≤ n / 10 = omega arith in
-    let s : n / 10 < 2 ^ 32 = omega arith in
-    let p : n / 10 / 10 ≡ n / 100 = omega arith in
-    let q : n / 10 % 10 ≡ n % 100 / 10 = omega arith in
-    let r : n % 10 ≡ n % 100 % 10 = omega arith in
-    let d : 10 ≤ n = omega arith in
-    decimal-more n d l
-    ∙ ap (λ (s : List ℕ). s ++ ((48 + n % 10) ∷ [])) (decimal-more (n / 10) b s)
-    ∙ append-assoc (decimal (n / 10 / 10)) ((48 + n / 10 % 10) ∷ []) ((48 + n % 10) ∷ [])
-    ∙ ap₂ (λ (k : ℕ) (s : List ℕ). decimal k ++ s) p (ap₂ (λ (x y : ℕ). (48 + x) ∷ (48 + y) ∷ []) q r)
+    parts (λ (d : ℕ). (48 + d) ∷ []) n (n / 10) (n / 10 / 10) (n / 10 % 10) (n % 10) (decimal-more n (omega arith) l)
+    (decimal-more (n / 10) (omega arith) (omega arith)) (n / 100) (n % 100 / 10) (n % 100 % 10) (omega arith) (omega arith) (omega arith)
 
 pub decimal-four : (n : ℕ) → 10000 ≤ n → n < 2 ^ 32 → decimal n ≡ decimal (n / 10000) ++ four (n % 10000)
 decimal-four n h l =
-    let b : 100 ≤ n / 100 = omega arith in
-    let s : n / 100 < 2 ^ 32 = omega arith in
-    let p : n / 100 / 100 ≡ n / 10000 = omega arith in
-    let q : n / 100 % 100 ≡ n % 10000 / 100 = omega arith in
-    let r : n % 100 ≡ n % 10000 % 100 = omega arith in
-    let d : 100 ≤ n = omega arith in
-    decimal-pair n d l
-    ∙ ap (λ (s : List ℕ). s ++ pair (n % 100)) (decimal-pair (n / 100) b s)
-    ∙ append-assoc (decimal (n / 100 / 100)) (pair (n / 100 % 100)) (pair (n % 100))
-    ∙ ap₂ (λ (k : ℕ) (s : List ℕ). decimal k ++ s) p (ap₂ (λ (x y : ℕ). pair x ++ pair y) q r)
+    parts pair n (n / 100) (n / 100 / 100) (n / 100 % 100) (n % 100) (decimal-pair n (omega arith) l)
+    (decimal-pair (n / 100) (omega arith) (omega arith)) (n / 10000) (n % 10000 / 100) (n % 10000 % 100) (omega arith) (omega arith) (omega arith)
 
 pub pair-length : (n : ℕ) → 100 ≤ n → n < 2 ^ 32 → length (decimal n) ≡ length (decimal (n / 100)) + 2
 pair-length n h l = ap length (decimal-pair n h l) ∙ length-append (decimal (n / 100)) (pair (n % 100))

@@ -11,7 +11,7 @@ use lib.ListN.{getD, length, take, drop, set, length-append, length-drop, take-a
 use lib.Seq.{set-split, length-take-le, take-at, drop-at, drop-drop, take-suc}
 use borrow.Author.Tests.{le-leb}
 use lib.Dec.{leb}
-use Rattle.text.specs.Put.{put, written, end}
+use Rattle.text.specs.Put.{put, Put, written, end}
 
 pub put-one : (d : List ℕ) (at b : ℕ) → at < length d → set d at b ≡ put d at (b ∷ [])
 put-one d at b h = set-split d at b h ∙ ap (λ (k : ℕ). take at d ++ b ∷ drop k d) (sym (add-one at))
@@ -60,10 +60,6 @@ put-next d b at i h f =
     ∙ ap (λ (k : ℕ). put (put d at t) (at + k) (getD b i 0 ∷ [])) (sym l)
     ∙ put-put d at t (getD b i 0 ∷ []) (omega arith)
     ∙ ap (put d at) (sym (take-suc b i 0 h) ∙ ap (λ (k : ℕ). take k b) (sym (add-one i)))
-
--- what a writer has done: it ends past the text, and the buffer has the text
-abbrev pub Put : List ℕ → ℕ → List ℕ → ℕ → List ℕ → Type 0
-Put d at s r e = (r ≡ at + length s) × (e ≡ put d at s)
 
 pub put-keeps : (d : List ℕ) (at : ℕ) (s : List ℕ) (r : ℕ) (e : List ℕ) → Put d at s r e → at + length s ≤ length d → length e ≡ length d
 put-keeps d at s r e p h = ap length (p .1) ∙ length-put d at s h

@@ -4,7 +4,7 @@ ghost use mathlib.Core.List.{_∷_, []};
 ghost use Prim.Native.Nat.{_+_, _*_, _/_, _%_, _≤_, _<_};
 ghost use lib.ListN.{length};
 ghost use Rattle.text.specs.Decimal.{pair, pair-word, four};
-ghost use Rattle.text.specs.Put.{put};
+ghost use Rattle.text.specs.Put.{put, Put};
 
 pub(crate) fn put_byte(b: u8, out: &mut [u8], at: usize) -> usize
     requires { ⌜ at < length (now out) ⌝ }
@@ -49,8 +49,7 @@ fn four_word(n: u32) -> u32
 pub(crate) fn put_pair(n: u32, out: &mut [u8], at: usize) -> usize
     requires { ⌜ n < 100 ⌝ }
     requires { ⌜ at + 2 ≤ length (now out) ⌝ }
-    ensures end { λ r. ⌜ r ≡ at + 2 ⌝ }
-    ensures text { λ _. ⌜ now (out .exit) ≡ put (now (out .entry)) at (pair n) ⌝ }
+    ensures { λ r. ⌜ Put (now (out .entry)) at (pair n) r (now (out .exit)) ⌝ }
 {
     let word = pair_word(n);
     put_bytes(word, out, at)
@@ -60,8 +59,7 @@ pub(crate) fn put_pair(n: u32, out: &mut [u8], at: usize) -> usize
 pub(crate) fn put_four(n: u32, out: &mut [u8], at: usize) -> usize
     requires { ⌜ n < 10000 ⌝ }
     requires { ⌜ at + 4 ≤ length (now out) ⌝ }
-    ensures end { λ r. ⌜ r ≡ at + 4 ⌝ }
-    ensures text { λ _. ⌜ now (out .exit) ≡ put (now (out .entry)) at (four n) ⌝ }
+    ensures { λ r. ⌜ Put (now (out .entry)) at (four n) r (now (out .exit)) ⌝ }
 {
     let word = four_word(n);
     let next = put_bytes(word % 65536, out, at);

@@ -7,14 +7,13 @@ ghost use Prim.Native.Nat.{_+_, _≤_, _<_};
 ghost use lib.ListN.{length};
 ghost use lib.IntN.{natAbs};
 ghost use Rattle.text.specs.Decimal.{decimal, sign, number-text};
-ghost use Rattle.text.specs.Put.{put};
+ghost use Rattle.text.specs.Put.{put, Put};
 
 // A number of at most two digits.
 fn put_to_two(n: u32, out: &mut [u8], at: usize) -> usize
     requires { ⌜ n < 100 ⌝ }
     requires { ⌜ at + length (decimal n) ≤ length (now out) ⌝ }
-    ensures end { λ r. ⌜ r ≡ at + length (decimal n) ⌝ }
-    ensures text { λ _. ⌜ now (out .exit) ≡ put (now (out .entry)) at (decimal n) ⌝ }
+    ensures { λ r. ⌜ Put (now (out .entry)) at (decimal n) r (now (out .exit)) ⌝ }
 {
     if n < 10 {
         return put_byte(48 + n as u8, out, at);
@@ -26,8 +25,7 @@ fn put_to_two(n: u32, out: &mut [u8], at: usize) -> usize
 fn put_to_four(n: u32, out: &mut [u8], at: usize) -> usize
     requires { ⌜ n < 10000 ⌝ }
     requires { ⌜ at + length (decimal n) ≤ length (now out) ⌝ }
-    ensures end { λ r. ⌜ r ≡ at + length (decimal n) ⌝ }
-    ensures text { λ _. ⌜ now (out .exit) ≡ put (now (out .entry)) at (decimal n) ⌝ }
+    ensures { λ r. ⌜ Put (now (out .entry)) at (decimal n) r (now (out .exit)) ⌝ }
 {
     if n < 100 {
         return put_to_two(n, out, at);
@@ -36,9 +34,7 @@ fn put_to_four(n: u32, out: &mut [u8], at: usize) -> usize
     put_pair(n % 100, out, next)
 }
 
-// A number of at most eight digits.
-fn put_to_eight(n: u32, out: &mut [u8], at: usize) -> usize
-    requires { ⌜ n < 100000000 ⌝ }
+fn put_decimal(n: u32, out: &mut [u8], at: usize) -> usize
     requires { ⌜ at + length (decimal n) ≤ length (now out) ⌝ }
     ensures end { λ r. ⌜ r ≡ at + length (decimal n) ⌝ }
     ensures text { λ _. ⌜ now (out .exit) ≡ put (now (out .entry)) at (decimal n) ⌝ }
@@ -46,20 +42,14 @@ fn put_to_eight(n: u32, out: &mut [u8], at: usize) -> usize
     if n < 10000 {
         return put_to_four(n, out, at);
     }
-    let next = put_to_four(n / 10000, out, at);
-    put_four(n % 10000, out, next)
-}
-
-fn put_decimal(n: u32, out: &mut [u8], at: usize) -> usize
-    requires { ⌜ at + length (decimal n) ≤ length (now out) ⌝ }
-    ensures end { λ r. ⌜ r ≡ at + length (decimal n) ⌝ }
-    ensures text { λ _. ⌜ now (out .exit) ≡ put (now (out .entry)) at (decimal n) ⌝ }
-{
-    if n < 100000000 {
-        return put_to_eight(n, out, at);
+    let upper = n / 10000;
+    if upper < 10000 {
+        let next = put_to_four(upper, out, at);
+        return put_four(n % 10000, out, next);
     }
-    let next = put_to_eight(n / 10000, out, at);
-    put_four(n % 10000, out, next)
+    let second = put_to_four(upper / 10000, out, at);
+    let third = put_four(upper % 10000, out, second);
+    put_four(n % 10000, out, third)
 }
 
 // A number and the byte after it.

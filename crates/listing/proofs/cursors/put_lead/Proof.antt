@@ -8,8 +8,8 @@ use native.Mathlib.Omega.{arith}
 use denote.Ref.{now}
 use lib.ListN.{length}
 use Rattle.text.specs.Decimal.{number-text, longest-number}
-use Rattle.text.specs.Put.{put}
-use Rattle.text.proofs.Puts.{Put, put-nothing, put-keeps, put-then, wrote-put}
+use Rattle.text.specs.Put.{put, Put}
+use Rattle.text.proofs.Puts.{put-nothing, put-keeps, put-then, wrote-put}
 use Rattle.text.proofs.Numbers.{number-longest}
 use Rattle.listing.specs.declared.cursors.Lead.{Lead}
 use Rattle.listing.specs.Listing.{header, refused-word, refused-text}

@@ -13,7 +13,8 @@ use mir.Val.{toZ, ofZ}
 use mir.ValLaws.{toZ-ofZ}
 use borrow.Author.Tests.{not-true, not-false, leb-true}
 use Rattle.text.specs.Decimal.{sign, number-text, signed-text, longest-signed}
-use Rattle.text.proofs.Puts.{Put, put-then, wrote-nothing, put-wrote}
+use Rattle.text.specs.Put.{Put}
+use Rattle.text.proofs.Puts.{put-then, wrote-nothing, put-wrote}
 use Rattle.text.proofs.Numbers.{signed-length, signed-longest}
 use borrow.Author.Needs.{needs}
 use Rattle.text.proofs.fields.signed_number.Statement.{statement}

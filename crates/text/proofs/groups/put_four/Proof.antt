@@ -6,7 +6,8 @@ use Prim.Native.Nat.{ℕ, _/_, _%_, _<_}
 use native.Mathlib.Omega.{arith}
 use denote.Ref.{now}
 use Rattle.text.specs.Decimal.{pair, pair-word}
-use Rattle.text.proofs.Puts.{Put, put-then}
+use Rattle.text.specs.Put.{Put}
+use Rattle.text.proofs.Puts.{put-then}
 use Rattle.text.proofs.Parts.{pair-bytes}
 use borrow.Author.Needs.{needs}
 use Rattle.text.proofs.groups.put_four.Statement.{statement}

@@ -4,7 +4,7 @@ use mathlib.Core.Path.{subst}
 use mathlib.Core.List.{List}
 use Prim.Native.Nat.{ℕ}
 use denote.Ref.{now}
-use Rattle.text.proofs.Puts.{Put}
+use Rattle.text.specs.Put.{Put}
 use Rattle.text.proofs.Parts.{pair-bytes}
 use borrow.Author.Needs.{needs}
 use Rattle.text.proofs.groups.put_pair.Statement.{statement}
@@ -21,9 +21,11 @@ same-length c = search needs
 
 returns : tie.Need-returns
 returns c =
-    let a = c .before .before .before .before .before .before .args in
+    let o = c .before .before .before .before .before .before in
+    let a = o .args in
+    let w = c .before .before .before .before .pair-word in
     let u = c .before .before .put-bytes in
-    let e = pair-bytes (c .before .before .before .before .pair-word .result) (a .n) (c .before .before .before .before .before .before .pre .0) (c .before .before .before .before .pair-word .ensures) in
+    let e = pair-bytes (w .result) (a .n) (o .pre .0) (w .ensures) in
     subst (λ (s : List ℕ). Put (now (a .out)) (a .at) s (u .result) (u .last .1 .0)) e (u .ensures)
 
 pub put-pair-spec : {M : Type 1} → statement M

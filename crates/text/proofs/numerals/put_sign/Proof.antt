@@ -7,7 +7,8 @@ use native.Mathlib.Omega.{arith}
 use denote.Ref.{now}
 use lib.ListN.{length}
 use Rattle.text.specs.Decimal.{sign}
-use Rattle.text.proofs.Puts.{Put, put-nothing}
+use Rattle.text.specs.Put.{Put}
+use Rattle.text.proofs.Puts.{put-nothing}
 use Rattle.text.proofs.Signs.{negative, plain}
 use borrow.Author.Needs.{needs}
 use Rattle.text.proofs.numerals.put_sign.Statement.{statement}

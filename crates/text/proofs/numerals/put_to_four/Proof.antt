@@ -37,12 +37,12 @@ same-length-2 c = search needs
 
 returns-2 : tie.Need-returns-2
 returns-2 c =
-    let a = c .before .before .before .before .before .before .before .before .before .before .args in
+    let o = c .before .before .before .before .before .before .before .before in
+    let a = o .before .before .args in
     let u = c .before .before .before .before .before .before .put-to-two2 in
     let v = c .before .before .put-pair in
-    let low : 100 ≤ a .n = omega (arith, c .before .before .before .before .before .before .before .before .if1 .left) in
-    put-with-pair (now (a .out)) (a .at) (a .n) (u .result) (u .last .1 .0) (v .result) (v .last .1 .0) (c .before .before .before .before .before .before .before .before .before .before .fits .n .fits)
-    (c .before .before .before .before .before .before .before .before .before .before .pre .1) low (u .ensures) (v .ensures)
+    put-with-pair (now (a .out)) (a .at) (a .n) (u .result) (u .last .1 .0) (v .result) (v .last .1 .0) (o .before .before .fits .n .fits)
+    (o .before .before .pre .1) (o .if1 .left) (u .ensures) (v .ensures)
 
 pub put-to-four-spec : {M : Type 1} → statement M
 put-to-four-spec =

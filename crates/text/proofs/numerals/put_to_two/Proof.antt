@@ -6,7 +6,7 @@ use Prim.Native.Nat.{ℕ}
 use native.Mathlib.Omega.{arith}
 use denote.Ref.{now}
 use lib.ListN.{length}
-use Rattle.text.proofs.Puts.{Put}
+use Rattle.text.specs.Put.{Put}
 use Rattle.text.proofs.Parts.{decimal-one, decimal-two}
 use borrow.Author.Needs.{needs}
 use Rattle.text.proofs.numerals.put_to_two.Statement.{statement}
@@ -30,12 +30,14 @@ returns : tie.Need-returns
 returns c =
     let a = c .before .before .before .before .before .before .args in
     let u = c .before .before .put-byte in
-    subst (λ (s : List ℕ). Put (now (a .out)) (a .at) s (u .result) (u .last .1 .0)) (sym (decimal-one (a .n) (c .before .before .before .before .if1 .taken))) (u .ensures)
+    let e = decimal-one (a .n) (c .before .before .before .before .if1 .taken) in
+    subst (λ (s : List ℕ). Put (now (a .out)) (a .at) s (u .result) (u .last .1 .0)) (sym e) (u .ensures)
 
 put-pair-requires : tie.Need-put-pair-requires
 put-pair-requires c κs =
-    let a = c .before .before .before .args in
-    (c .before .before .before .pre .0, omega (arith, c .before .before .before .pre .1, ap length (decimal-two (a .n) (c .before .if1 .left) (c .before .before .before .pre .0))))
+    let o = c .before .before .before in
+    let e = ap length (decimal-two (o .args .n) (c .before .if1 .left) (o .pre .0)) in
+    (o .pre .0, omega (arith, o .pre .1, e))
 
 same-length-2 : tie.Need-same-length-2
 same-length-2 c = search needs

@@ -8,7 +8,7 @@ use native.Mathlib.Omega.{arith}
 use denote.Ref.{now}
 use lib.ListN.{length, take, drop}
 use lib.Seq.{length-take-le, drop-drop}
-use Rattle.text.proofs.Puts.{Put}
+use Rattle.text.specs.Put.{Put}
 use Rattle.visits.specs.Place.{to-come as visits-to-come}
 use Rattle.listing.specs.Listing.{lines}
 use Rattle.listing.specs.Cursor.{lead-text, to-come, Paged}
