@@ -58,13 +58,13 @@ masked x w h = go (w % 2) (omega arith)
 -- ---- a place more
 
 pub record Clearing (by along from at : ℕ) (words indexes words′ indexes′ : List ℕ) : Type 0 where
-  pub long-words : length words′ ≡ 36
-  pub long-indexes : length indexes′ ≡ 36
+  pub long-words : length words′ ≡ 40
+  pub long-indexes : length indexes′ ≡ 40
   pub clears : Clears by along from at words indexes words′ indexes′
   pub words-stay : Stays from at words words′
   pub indexes-stay : Stays from at indexes indexes′
 
-pub clearing-none : (by along from : ℕ) (words indexes : List ℕ) → length words ≡ 36 → length indexes ≡ 36
+pub clearing-none : (by along from : ℕ) (words indexes : List ℕ) → length words ≡ 40 → length indexes ≡ 40
     → Clearing by along from from words indexes words indexes
 clearing-none by along from words indexes h k = record {
   long-words = h;
@@ -99,7 +99,7 @@ at-place l l′ from at x stays room f old is = (new, kept)
         outside (inr h) = inr (omega arith)
 
 module _ {by along from at : ℕ} {words indexes words′ indexes′ : List ℕ} (now : Clearing by along from at words indexes words′ indexes′)
-    (room : at < 36) (low : from ≤ at) (by-fits : by < 2 ^ 32) (along-fits : along < 2 ^ 32) where
+    (room : at < 40) (low : from ≤ at) (by-fits : by < 2 ^ 32) (along-fits : along < 2 ^ 32) where
   pub clearing-more : (hit : ℕ) → hit ≡ getD words′ at 0 / 2 ^ trailingZeros 32 by % 2 * 4294967295
       → Clearing by along from (at + 1) words indexes (set words′ at (bitXor (getD words′ at 0) (bitAnd by hit)))
       (set indexes′ at (bitXor (getD indexes′ at 0) (bitAnd along hit)))
@@ -175,14 +175,14 @@ fewer clears h = record { word = λ d l u. clears .word d l (omega arith); index
 -- ---- the columns put one after the other
 
 pub record Putting (L : ℕ → ℕ) (n : ℕ) (words indexes : List ℕ) : Type 0 where
-  pub long-words : length words ≡ 36
-  pub long-indexes : length indexes ≡ 36
+  pub long-words : length words ≡ 40
+  pub long-indexes : length indexes ≡ 40
   pub columns : (c : ℕ) → c < n → (getD words c 0 ≡ L (2 ^ c)) × (getD indexes c 0 ≡ 2 ^ c)
 
-pub putting-none : (L : ℕ → ℕ) (words indexes : List ℕ) → length words ≡ 36 → length indexes ≡ 36 → Putting L 0 words indexes
+pub putting-none : (L : ℕ → ℕ) (words indexes : List ℕ) → length words ≡ 40 → length indexes ≡ 40 → Putting L 0 words indexes
 putting-none L words indexes h k = record { long-words = h; long-indexes = k; columns = λ c l. absurd (omega arith) }
 
-pub putting-more : {L : ℕ → ℕ} {n : ℕ} {words indexes : List ℕ} → Putting L n words indexes → n < 36 → (word index : ℕ)
+pub putting-more : {L : ℕ → ℕ} {n : ℕ} {words indexes : List ℕ} → Putting L n words indexes → n < 40 → (word index : ℕ)
     → word ≡ L (2 ^ n) → index ≡ 2 ^ n → Putting L (n + 1) (set words n word) (set indexes n index)
 putting-more {L} {n} {words} {indexes} now room word index e f = record {
   long-words = length-set words n word ∙ now .long-words;

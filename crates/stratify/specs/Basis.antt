@@ -34,9 +34,9 @@ Sweeps words indexes n v k word index = (L : ℕ → ℕ) → Additive 2 L → I
 
 -- ---- the arrays of the code
 
--- both have 36 places
+-- both have 40 places
 abbrev pub Long : List ℕ → List ℕ → Type 0
-Long words indexes = (length words ≡ 36) × (length indexes ≡ 36)
+Long words indexes = (length words ≡ 40) × (length indexes ≡ 40)
 
 -- the first n words are the columns of the shape (m, a), as the intervals of the indexes that have one of them
 abbrev pub Columns : Generators → ℕ → ℕ → ℕ → List ℕ → List ℕ → Type 0

@@ -20,7 +20,7 @@ pub(crate) struct Elimination {
 
 // Words that are cleared together: the compiler makes one step of it. The arrays have whole parts, with room for the columns of the
 // largest shape and for the word asked for.
-const PART: usize = 4;
+const PART: usize = 8;
 
 // The columns of the shape (m, a), with the indexes that have them.
 fn put_columns(plan: Plan, m: u32, a: u32, words: &mut [u32], indexes: &mut [u32])
@@ -51,10 +51,10 @@ fn spread(word: u32, by: u32) -> u32
 
 // The words of a part cleared at the lowest bit of a word, and their indexes moved along.
 fn clear_part(words: &mut [u32], indexes: &mut [u32], from: usize, by: u32, along: u32)
-    requires { ⌜ (by ≢ 0) × (from + 4 ≤ 36) × Long (now words) (now indexes) ⌝ }
-    ensures cleared { λ _. ⌜ Clears by along from (from + 4) (now (words .entry)) (now (indexes .entry)) (now (words .exit)) (now (indexes .exit)) ⌝ }
-    ensures words { λ _. ⌜ Stays from (from + 4) (now (words .entry)) (now (words .exit)) ⌝ }
-    ensures indexes { λ _. ⌜ Stays from (from + 4) (now (indexes .entry)) (now (indexes .exit)) ⌝ }
+    requires { ⌜ (by ≢ 0) × (from + 8 ≤ 40) × Long (now words) (now indexes) ⌝ }
+    ensures cleared { λ _. ⌜ Clears by along from (from + 8) (now (words .entry)) (now (indexes .entry)) (now (words .exit)) (now (indexes .exit)) ⌝ }
+    ensures words { λ _. ⌜ Stays from (from + 8) (now (words .entry)) (now (words .exit)) ⌝ }
+    ensures indexes { λ _. ⌜ Stays from (from + 8) (now (indexes .entry)) (now (indexes .exit)) ⌝ }
 {
     let mut at = from;
     while at < from + PART {
@@ -85,8 +85,8 @@ pub(crate) fn eliminate(plan: Plan, m: u32, a: u32, asked: u32) -> Elimination
     ensures { λ r. ⌜ Eliminates (generators plan) m a asked (r .bad) (r .index) ⌝ }
 {
     let n = m as usize;
-    let mut words = [0u32; 36];
-    let mut indexes = [0u32; 36];
+    let mut words = [0u32; 40];
+    let mut indexes = [0u32; 40];
     put_columns(plan, m, a, &mut words, &mut indexes);
     words[n] = asked;
     indexes[n] = 0;

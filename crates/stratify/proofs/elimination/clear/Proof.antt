@@ -9,10 +9,10 @@ use Rattle.stratify.proofs.elimination.clear.Tie as tie
 
 abbrev Inv-loop : tie.InvT-loop
 Inv-loop words₀ indexes₀ c n by along from₀ words indexes from =
-    (from % 4 ≡ 0) × (from ≤ 36) × Long words indexes × Parts by along c from words₀ indexes₀ words indexes
+    (from % 8 ≡ 0) × (from ≤ 40) × Long words indexes × Parts by along c from words₀ indexes₀ words indexes
 
 abbrev μ-loop : tie.MeasureT-loop
-μ-loop words₀ indexes₀ c n by along from₀ words indexes from = 36 - from
+μ-loop words₀ indexes₀ c n by along from₀ words indexes from = 40 - from
 
 mul-from : tie.Need-mul-from Inv-loop μ-loop
 mul-from c = omega arith

@@ -10,10 +10,10 @@ use Rattle.stratify.proofs.elimination.clear_part.Tie as tie
 
 abbrev Inv-loop : tie.InvT-loop
 Inv-loop words₀ indexes₀ from by along at₀ words indexes at =
-    (from ≤ at) × (at ≤ from + 4) × Clearing by along from at words₀ indexes₀ words indexes
+    (from ≤ at) × (at ≤ from + 8) × Clearing by along from at words₀ indexes₀ words indexes
 
 abbrev μ-loop : tie.MeasureT-loop
-μ-loop words₀ indexes₀ from by along at₀ words indexes at = from + 4 - at
+μ-loop words₀ indexes₀ from by along at₀ words indexes at = from + 8 - at
 
 loop-holds : tie.Need-loop-holds Inv-loop μ-loop
 loop-holds c = let s = c .before .before in
@@ -75,7 +75,7 @@ same-length-2 c = c .before .loop .inv .2 .long-indexes ∙ sym (c .before .befo
 returns : tie.Need-returns Inv-loop μ-loop
 returns c =
     let l = c .before .loop in
-    let e : l .at ≡ c .before .before .before .before .args .from + 4 = omega arith in
+    let e : l .at ≡ c .before .before .before .before .args .from + 8 = omega arith in
     let done = rw e at (l .inv .2) in
     (done .clears, (done .words-stay, done .indexes-stay))
 
