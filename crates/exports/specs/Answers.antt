@@ -29,6 +29,7 @@ pub record StepWords (P : Type 0) : Type 0 where
   pub index : ℕ
   pub point : P
 
+-- those words by their contents
 abbrev pub step-words : {P : Type 0} → (next left given index : ℕ) → P → StepWords P
 step-words next left given index point = record { next = next; left = left; given = given; index = index; point = point }
 

@@ -7,7 +7,6 @@ use Rattle.net.specs.Sequence.{Sequence, point}
 use Rattle.net.specs.Run.{Visit, visit}
 use Rattle.net.specs.Walk.{Stepped, step}
 use Rattle.refusal.specs.Outcome.{Outcome, accepted, then, granted}
-use Rattle.plan.specs.declared.pair.Plan.{Plan}
 use Rattle.plan.specs.Range.{last-index}
 use Rattle.plan.specs.Pair.{sequence, standard-pair, load-outcome, loaded}
 use Rattle.plan.specs.Fill.{fill-outcome, filled, Buffers}
@@ -26,6 +25,7 @@ points words sx sy = sequence (loaded words) (record { x = sx; y = sy })
 abbrev pub of-pair : {A : Type 0} → List ℕ → A → Outcome A
 of-pair words a = then (load-outcome words) (accepted a)
 
+-- the point of index i, and the same as two singles
 abbrev pub point-outcome : List ℕ → (sx sy i : ℕ) → Outcome (ℕ × ℕ)
 point-outcome words sx sy i = of-pair words (point (points words sx sy) i)
 

@@ -2,7 +2,7 @@
 use mathlib.Core.Path.{_≡_}
 use mathlib.Core.Bool.{cond}
 use mathlib.Core.List.{List, [], _∷_}
-use Prim.Native.Nat.{ℕ, _+_}
+use Prim.Native.Nat.{ℕ}
 use lib.Dec.{eqb}
 use lib.IntN.{ℤ}
 use lib.ListN.{getD, drop}
@@ -62,6 +62,7 @@ pub record VisitWords : Type 0 where
   pub x : ℤ
   pub y : ℤ
 
+-- those words by their contents
 abbrev pub visit-words : (given number index : ℕ) (x y : ℤ) → VisitWords
 visit-words given number index x y = record { given = given; number = number; index = index; x = x; y = y }
 

@@ -103,7 +103,7 @@ pub extern "C" fn vektrid_listing_page(file: &[u8], cursor: &mut [u32; 13], out:
     let start = cursor_of(*cursor);
     let page = start.page(file, out);
     let next = page.next;
-    let words = words_of_cursor(next);
-    *cursor = words;
+    let past = words_of_cursor(next);
+    *cursor = past;
     page.len
 }
