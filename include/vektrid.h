@@ -2,8 +2,9 @@
  *
  * Every call answers any numbers; none traps, prints or keeps anything. An answer of type uint32_t is 0, or the number of a refusal in
  * document 01's table (enum vektrid_refusal); a refused call leaves every lent word and buffer as it was, but for the values that
- * refusal 3 gives. What the proofs ask of the caller, since C cannot say it: no pointer is null, each buffer has the length given
- * beside it, and what one call writes does not overlap anything else that is lent to that call.
+ * refusal 3 gives. What the proofs ask of the caller, since C cannot say it: no pointer is null (not even with a length of 0), each points to
+ * aligned memory of its type, each buffer has the length given beside it, and what one call writes does not overlap anything else that is
+ * lent to that call.
  *
  * A pair (two generator matrices) is 64 words: the 32 columns of X, then those of Y; column c belongs to index bit c, and the top bit of a
  * word is row 0. shift_x and shift_y are the scramble (a digital shift), one word for each axis.
@@ -65,7 +66,8 @@ uint32_t vektrid_fill(const uint32_t *words, size_t count, uint32_t shift_x, uin
 uint32_t vektrid_walk_open(uint32_t start, uint64_t count, uint32_t *next, uint64_t *left);
 
 /* A step: 0 or 1. *given is 1 where there was a visit, its index and point then in *index, *x and *y; 0 where the walk has ended, and those
- * three keep what they held. *next and *left become the walk after the step. */
+ * three keep what they held. *next and *left become the walk after the step. Any *next and *left are answered, also ones that were never
+ * opened. After the visit of index 2^32 - 1, *left is 0 and *next stays. */
 uint32_t vektrid_walk_step(const uint32_t *words, size_t count, uint32_t shift_x, uint32_t shift_y, uint32_t *next, uint64_t *left,
                            uint32_t *given, uint32_t *index, uint32_t *x, uint32_t *y);
 
@@ -75,7 +77,11 @@ uint32_t vektrid_walk_step_singles(const uint32_t *words, size_t count, uint32_t
 
 /* ---- cells */
 
-/* The one index of a block that lies in a cell of the shape (m, a), to *index: 0, 1, 2, 4, 5, 6, 7 or 3; 3 writes the shape's least index to *j. */
+/* The shape (m, a) has 2^a columns and 2^(m-a) rows; a point's column is the top a bits of its x, its row the top m-a bits of its y. Block k
+ * has the indexes k * 2^m to (k+1) * 2^m - 1. The level only bounds m; the pair need not be checked before.
+ *
+ * Writes the one index of the block whose point lies in the cell to *index: 0, or, the first that is due, 1, 2, 4, 5, 6, 7 or 3. 3 writes to *j
+ * the least index above 0 that shares the cell of index 0 in this shape, whatever cell, block and shift were asked for. */
 uint32_t vektrid_query(const uint32_t *words, size_t count, uint32_t shift_x, uint32_t shift_y, uint32_t level, uint32_t m, uint32_t a,
                        uint32_t column, uint32_t row, uint32_t block, uint32_t *index, uint32_t *j);
 
@@ -92,12 +98,14 @@ uint32_t vektrid_point_singles(const uint32_t *words, size_t count, uint32_t shi
 
 /* ---- the stage */
 
-/* Where the point with coordinate words x and y lies in a region, in micrometres: 0 or 10. */
+/* Where the point with coordinate words x and y lies in a region, in micrometres, y downwards: left + floor(x * width / 2^32), and likewise
+ * from top. 0, or 10 unless left and top are -1,000,000 to 1,000,000 and width and height 1 to 1,000,000. */
 uint32_t vektrid_position(int32_t left, int32_t top, uint32_t width, uint32_t height, uint32_t x, uint32_t y, int32_t *at_x, int32_t *at_y);
 
 /* ---- region files */
 
-/* A place among the visits of a file, and a cursor in its listing. Words that a caller may copy and keep; any content is answered. */
+/* A place among the visits of a file, and a cursor in its listing. Words that a caller may copy and keep; any content is answered. Go on with
+ * the bytes that were opened; with others the answers are some visits or text, and still nothing is written outside. */
 typedef struct vektrid_place {
     uint32_t words[11];
 } vektrid_place;
@@ -106,7 +114,7 @@ typedef struct vektrid_cursor {
     uint32_t words[13];
 } vektrid_cursor;
 
-/* Judges a whole file: 0, or 11, 2, 12, 13, 14, 10 or 15. */
+/* Judges a whole file: 0, or, the first that is due, 11, 2, 12, and then at each link of the chain 13, 14, 10 or 15. */
 uint32_t vektrid_judge(const uint8_t *file, size_t size);
 
 /* The place before the first visit of a file, or the refusal of the file as vektrid_judge gives it. */

@@ -166,20 +166,20 @@ static void refused_points(void) {
 }
 
 static void fills(uint32_t start, size_t count) {
-    uint32_t xs[40], ys[40];
-    keep(xs, 40);
-    keep(ys, 40);
+    uint32_t xs[300], ys[300];
+    keep(xs, 300);
+    keep(ys, 300);
     CHECK(vektrid_fill(standard, 64, 0x12345678u, 0x9ABCDEF0u, start, xs, count, ys, count) == 0);
     for (size_t i = 0; i < count; i++) {
         uint32_t index = start + (uint32_t)i;
         CHECK(xs[i] == point_of(standard, 0x12345678u, index) && ys[i] == point_of(standard + 32, 0x9ABCDEF0u, index));
     }
-    CHECK(all_kept(xs + count, 40 - count) && all_kept(ys + count, 40 - count));
+    CHECK(all_kept(xs + count, 300 - count) && all_kept(ys + count, 300 - count));
 }
 
 static void all_fills(void) {
-    static const size_t counts[6] = {0, 1, 2, 3, 17, 33};
-    for (int i = 0; i < 6; i++) {
+    static const size_t counts[8] = {0, 1, 2, 3, 17, 33, 64, 200};
+    for (int i = 0; i < 8; i++) {
         fills(0, counts[i]);
         fills(7, counts[i]);
         fills(65535, counts[i]);

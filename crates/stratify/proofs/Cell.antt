@@ -4,14 +4,13 @@ use mathlib.Core.List.{List}
 use Prim.Native.Nat.{ℕ, _+_, _-_, _*_, _^_, _<_}
 use native.Mathlib.Nat.{lt-of-lt-of-le}
 use lib.Pow.{pow-mono}
-use Rattle.digits.proofs.Arithmetic.{zero-plus}
 use Rattle.digits.proofs.Two.{one-lt-two}
 use Rattle.linear.specs.Unique.{Only}
 use Rattle.net.specs.Sequence.{Fits, VisitIn}
 use Rattle.net.specs.Finish.{plain, shifted}
 use Rattle.net.specs.Shape.{Shape}
 use Rattle.net.specs.Elimination.{BasisEntry, interval, solve, plain-interval, basis-index}
-use Rattle.net.proofs.Interval.{plain-fits, plain-interval-lt, interval-additive}
+use Rattle.net.proofs.Interval.{plain-fits, plain-interval-lt}
 use Rattle.net.proofs.Finish.{shift-lawful, finished-fits}
 use Rattle.plan.specs.Pair.{pair}
 use Rattle.net.specs.Answers.{Solved}

@@ -3,7 +3,7 @@ use mathlib.Core.Path.{_≡_, refl, sym, ap, ap₂, _∙_}
 use mathlib.Core.Logic.{_⊎_, inl, inr, _≢_}
 use mathlib.Core.List.{List}
 use Prim.Native.Nat.{ℕ, zero, suc, _+_, _-_, _*_, _/_, _%_, _^_, _≤_, _<_}
-use native.Mathlib.Nat.{mul-zero, mul-one, one-mul, zero-mul, mod-eq-of-lt, pow-suc}
+use native.Mathlib.Nat.{mul-zero, mul-one, zero-mul, mod-eq-of-lt, pow-suc}
 use native.Mathlib.Omega.{arith}
 use lib.Bits.{bitAnd, bitXor, and-zero-r, and-mask, and-high}
 use lib.Count.{trailingZeros}

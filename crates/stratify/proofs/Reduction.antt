@@ -1,4 +1,4 @@
--- One turn of a sweep is one step of the model's `solve`. Assumes nothing.
+-- Clearing by one entry more is one step of the model's `solve`. Assumes nothing.
 use mathlib.Core.Path.{_≡_, sym, ap, ap₂, _∙_}
 use mathlib.Core.List.{List}
 use Prim.Native.Nat.{ℕ, suc, _+_, _*_, _/_, _%_, _^_}
@@ -70,7 +70,7 @@ module _ (words indexes : List ℕ) (v k : ℕ) where
           ∙ minus-minus one-lt-two v (L p) (times 2 d (getD words t 0))
           ∙ ap (minus 2 v) (sym image ∙ ap L (sym next))
 
--- a sweep of an index with its own image is the model's `reduce`
+-- an index cleared together with its own image is the model's `reduce`
 module _ {L : ℕ → ℕ} (A : Additive 2 L) (words indexes : List ℕ) (n e word index : ℕ) (images : Images L words indexes n)
     (swept : Sweeps words indexes n (L e) e word index) where
   S : Swept words indexes n (L e) e word index L

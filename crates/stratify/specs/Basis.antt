@@ -1,5 +1,5 @@
--- What the inner functions of the elimination promise one another: a basis as the code holds it, words beside the indexes whose
--- images they are. No public contract cites this file.
+-- What the inner functions of the elimination promise one another, over arrays of words beside their indexes, and the notions by which the
+-- proofs relate them to the model. No public contract cites this file.
 use mathlib.Core.Path.{_≡_}
 use mathlib.Core.Logic.{_≢_, _⊎_}
 use mathlib.Core.List.{List, [], _∷_}
@@ -24,7 +24,7 @@ entries words indexes (suc n) =
 abbrev pub Images : (ℕ → ℕ) → List ℕ → List ℕ → ℕ → Type 0
 Images L words indexes n = (t : ℕ) → t < n → getD words t 0 ≡ L (getD indexes t 0)
 
--- a word and an index after the sweep by n entries, for every additive L: the index has moved by the solution for the word
+-- a word and an index cleared by n entries, for every additive L: the index has moved by the solution for the word
 pub record Swept (words indexes : List ℕ) (n v k word index : ℕ) (L : ℕ → ℕ) : Type 0 where
   pub moved : index ≡ plus 2 k (solve 2 L (entries words indexes n) v)
   pub rest : word ≡ minus 2 v (L (solve 2 L (entries words indexes n) v))

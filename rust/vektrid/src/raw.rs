@@ -1,8 +1,8 @@
 //! The C calls as `include/vektrid.h` declares them. The rest of this crate makes them safe.
 //!
-//! Each answers any numbers. It asks of its caller that no pointer is null, that each buffer has
-//! the length given beside it, and that what
-//! it writes overlaps nothing else that is lent to it.
+//! Each answers any numbers. It asks of its caller that no pointer is null, that each points to
+//! aligned memory of its type, that each buffer has the length given beside it, and that what it
+//! writes overlaps nothing else that is lent to it.
 
 /// A place among the visits of a region file (`vektrid_place`). Any content is answered.
 #[repr(C)]

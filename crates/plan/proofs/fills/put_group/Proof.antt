@@ -1,11 +1,11 @@
 -- `plan::fills::put_group` meets its contract: the first i words are put. Assumes nothing.
-use mathlib.Core.Path.{_≡_, sym, ap, _∙_}
+use mathlib.Core.Path.{sym, ap, _∙_}
 use mathlib.Core.List.{List, map}
-use Prim.Native.Nat.{ℕ, _+_, _-_, _≤_}
+use Prim.Native.Nat.{ℕ, _-_, _≤_}
 use native.Mathlib.Nat.{zero-add}
 use native.Mathlib.Omega.{arith}
 use lib.Bits.{bitXor}
-use lib.ListN.{length, getD}
+use lib.ListN.{getD}
 use Rattle.digits.specs.Digits.{plus}
 use Rattle.digits.proofs.Two.{plus-two}
 use Rattle.net.specs.Run.{range}

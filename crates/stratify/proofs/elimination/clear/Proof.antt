@@ -1,6 +1,6 @@
 -- `stratify::elimination::clear` meets its contract: a part more is cleared. Assumes nothing.
 use mathlib.Core.Path.{_≡_, sym, _∙_}
-use Prim.Native.Nat.{_+_, _-_, _%_, _≤_}
+use Prim.Native.Nat.{_-_, _%_, _≤_}
 use native.Mathlib.Omega.{arith}
 use Rattle.stratify.specs.Basis.{Long}
 use Rattle.stratify.proofs.Clearing.{Parts, parts-none, parts-more, fewer}

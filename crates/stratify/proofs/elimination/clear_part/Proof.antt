@@ -2,8 +2,6 @@
 use mathlib.Core.Path.{_≡_, sym, _∙_}
 use Prim.Native.Nat.{_+_, _-_, _≤_}
 use native.Mathlib.Omega.{arith}
-use borrow.Author.Needs.{needs}
-use lib.ListN.{length-set}
 use Rattle.stratify.proofs.Clearing.{Clearing, clearing-none, clearing-more}
 use Rattle.stratify.proofs.elimination.clear_part.Statement.{statement}
 use Rattle.stratify.proofs.elimination.clear_part.Tie as tie

@@ -1,6 +1,6 @@
 -- `numerals::put_to_four` meets its contract.
 -- Assumes nothing.
-use Prim.Native.Nat.{ℕ, _^_, _<_, _≤_}
+use Prim.Native.Nat.{_≤_}
 use native.Mathlib.Omega.{arith}
 use denote.Ref.{now}
 use Rattle.text.proofs.Parts.{pair-length, put-with-pair}
