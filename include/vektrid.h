@@ -9,7 +9,7 @@
  * A pair (two generator matrices) is 64 words: the 32 columns of X, then those of Y; column c belongs to index bit c, and the top bit of a
  * word is row 0. shift_x and shift_y are the scramble (a digital shift), one word for each axis.
  *
- * Link target/staticlib/libexports.a or target/libvektrid.so; tools/archive makes both.
+ * Link target/staticlib/libvektrid.a or target/libvektrid.so; tools/archive makes both.
  */
 #ifndef VEKTRID_H
 #define VEKTRID_H

@@ -190,7 +190,7 @@ pub fn long() {
     long_lines(&file);
 }
 
-// The listing of the base file with two words changed; a page holds it whole.
+// The listing of the base file with two words changed; a piece holds it whole.
 fn list_lines(at: u32, word: u32, at_2: u32, word_2: u32) {
     let mut file = [0u8; 96];
     put_base(&mut file);
@@ -198,8 +198,8 @@ fn list_lines(at: u32, word: u32, at_2: u32, word_2: u32) {
     put_word(&mut file, at_2 as usize, word_2);
     let mut space = io::buffer();
     let cursor = Cursor::open(&file);
-    let page = cursor.page(&file, &mut space);
-    let n = page.len;
+    let piece = cursor.piece(&file, &mut space);
+    let n = piece.len;
     print::text(&space[..n]);
 }
 

@@ -4,10 +4,12 @@ use lib.Count.{leadingZeros}
 use lib.Ieee.{ofBits, toBits}
 use Rattle.digits.specs.Digits.{digitwise, plus, times}
 use Rattle.digits.proofs.Two.{one-lt-two}
-use Rattle.linear.specs.Matrix.{sum, skip, det}
+use Rattle.ranges.specs.Skip.{skip}
+use Rattle.linear.specs.Matrix.{sum, det}
 use Rattle.net.specs.Generators.{product}
 use Rattle.net.specs.Shape.{matrix}
-use Rattle.net.specs.Check.{search, least-index, first-a, first-m, check}
+use Rattle.ranges.specs.Search.{search}
+use Rattle.net.specs.Check.{least-index, first-a, first-m, check}
 use Rattle.net.specs.Query.{visit-index, locate}
 use Rattle.net.proofs.Standard.{iterate, add-down, iterated}
 use Rattle.net.proofs.Columns.{standard-is}

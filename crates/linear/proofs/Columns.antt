@@ -8,9 +8,11 @@ use Prim.Native.Nat.{ℕ, zero, suc, pred, _+_, _-_, _*_, _^_, _≤_, _<_, _∣_
 use native.Mathlib.Nat.{dvd-add, dvd-add-iff-right, dvd-add-iff-left, dvd-mul-left-of-dvd, dvd-mul-left, pow-suc}
 use native.Mathlib.Omega.{arith}
 use borrow.Author.Tests.{eq-eqb, ne-eqb}
-use Rattle.linear.specs.Matrix.{Matrix, skip, minor, set, put}
-use Rattle.linear.proofs.Cases.{lt-or-ge, eq-or-ne}
-use Rattle.linear.proofs.Sum.{skip-below, skip-above, sum-pair}
+use Rattle.ranges.specs.Skip.{skip}
+use Rattle.linear.specs.Matrix.{Matrix, minor, set, put}
+use Rattle.ranges.proofs.Order.{lt-or-ge, eq-or-ne}
+use Rattle.ranges.proofs.Skip.{skip-below, skip-above}
+use Rattle.linear.proofs.Sum.{sum-pair}
 use Rattle.linear.proofs.Expand.{expand, det-lin}
 
 -- ---- a column replaced

@@ -8,7 +8,7 @@ use native.Mathlib.Omega.{arith}
 use Rattle.digits.proofs.Remainder.{mul-cong}
 use Rattle.linear.specs.Prime.{Prime}
 use Rattle.linear.specs.Matrix.{Matrix, minor, det}
-use Rattle.linear.proofs.Cases.{find}
+use Rattle.ranges.proofs.Order.{find}
 use Rattle.linear.proofs.Expand.{expand}
 use Rattle.linear.proofs.Modulo.{sum-cong, det-is}
 

@@ -1,7 +1,5 @@
-pub mod Cases
 pub mod Sum
 pub mod Prime
-pub mod Pigeon
 pub mod Expand
 pub mod Columns
 pub mod Cramer

@@ -6,10 +6,11 @@ use native.Mathlib.Nat.{mod-lt, mod-eq-of-lt, add-mod, mod-eq-zero-of-dvd, dvd-o
 use native.Mathlib.Omega.{arith}
 use Rattle.digits.proofs.Remainder.{mul-mod, mul-cong, add-cong}
 use Rattle.linear.specs.Prime.{Prime}
-use Rattle.linear.specs.Matrix.{Matrix, sum, skip, minor, det, image, put}
+use Rattle.ranges.specs.Skip.{skip}
+use Rattle.linear.specs.Matrix.{Matrix, sum, minor, det, image, put}
 use Rattle.linear.specs.Solution.{Kernel, Trivial}
-use Rattle.linear.proofs.Cases.{eq-or-ne}
-use Rattle.linear.proofs.Sum.{skip-lt}
+use Rattle.ranges.proofs.Order.{eq-or-ne}
+use Rattle.ranges.proofs.Skip.{skip-lt}
 use Rattle.linear.proofs.Prime.{cancel}
 use Rattle.linear.proofs.Expand.{expand}
 use Rattle.linear.proofs.Columns.{put-at, put-off, put-lin, swap, equal}

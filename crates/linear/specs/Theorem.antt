@@ -1,9 +1,9 @@
--- What is proved of matrices modulo a prime p, and the pigeonhole principle. First the statements, as records; at the end `Theorems`,
+-- What is proved of matrices modulo a prime p. First the statements, as records; at the end `Theorems`,
 -- the whole list with the assumption of each, of which proofs/Theorem gives one term.
 use mathlib.Core.Path.{_≡_}
 use mathlib.Core.Logic.{_≢_, _↔_}
 use Prim.Native.Nat.{ℕ, _+_, _*_, _%_, _<_}
-use Rattle.linear.specs.Unique.{One}
+use Rattle.ranges.specs.Unique.{One}
 use Rattle.linear.specs.Prime.{Prime}
 use Rattle.linear.specs.Matrix.{Matrix, det, put}
 use Rattle.linear.specs.Solution.{Kernel, Trivial, Solves}
@@ -24,13 +24,7 @@ pub record Determinant (p : ℕ) : Type 0 where
   -- each right-hand side has exactly one solution
   pub solution : (n : ℕ) (A : Matrix) → det p n A ≢ 0 → (y : ℕ → ℕ) → ((r : ℕ) → r < n → y r < p) → One (Solves p n A y)
 
--- a function from the numbers below N to themselves that takes no value twice takes each
-pub record Pigeonhole (N : ℕ) : Type 0 where
-  pub onto : (f : ℕ → ℕ) → ((i : ℕ) → i < N → f i < N) → ((i j : ℕ) → i < N → j < N → f i ≡ f j → i ≡ j)
-      → (y : ℕ) → y < N → (i : ℕ) × (i < N) × (f i ≡ y)
-
 pub record Theorems : Type 0 where
   pub two : Prime 2
   pub three : Prime 3
   pub determinant : {p : ℕ} → Prime p → Determinant p
-  pub pigeonhole : (N : ℕ) → Pigeonhole N

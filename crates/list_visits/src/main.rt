@@ -35,15 +35,15 @@ fn list(file: &[u8]) {
     let mut space = io::large_buffer();
     let mut cursor = Cursor::open(file);
     loop {
-        let page = cursor.page(file, &mut space);
-        let len = page.len;
+        let piece = cursor.piece(file, &mut space);
+        let len = piece.len;
         if len == 0 {
             return;
         }
         if !io::write_all(STDOUT_FILENO, &space[..len]) {
             return;
         }
-        let next = page.next;
+        let next = piece.next;
         cursor = next;
     }
 }

@@ -6,10 +6,10 @@ use Prim.Native.Nat.{ℕ}
 use lib.IntN.{ℤ, pos, negsuc}
 use Rattle.refusal.specs.Outcome.{accepted, refused}
 use Rattle.text.specs.Decimal.{decimal-in, number-text, signed-text}
-use Rattle.visits.specs.declared.place.Visit.{Visit}
+use Rattle.visits.specs.declared.file_walks.FileVisit.{FileVisit}
 use Rattle.listing.specs.Listing.{header, refused-text, line, lines, report}
 
-abbrev at : ℕ → ℕ → ℤ → ℤ → Visit
+abbrev at : ℕ → ℕ → ℤ → ℤ → FileVisit
 at n i x y = record { number = n; index = i; x = x; y = y }
 
 -- 1 0 -500 0, 1 1 0 400, 1 2 -250 600, 1 3 250 200

@@ -10,14 +10,14 @@ use Rattle.text.specs.Decimal.{number-text, signed-text, longest-number, longes
 use Rattle.text.specs.Put.{Put}
 use Rattle.text.proofs.Puts.{Wrote, take-put, drop-put, put-keeps, put-then, wrote-put}
 use Rattle.text.proofs.Numbers.{number-length, number-longest, signed-longest}
-use Rattle.visits.specs.declared.place.Visit.{Visit}
+use Rattle.visits.specs.declared.file_walks.FileVisit.{FileVisit}
 use Rattle.listing.specs.Listing.{refused-word, refused-text, line, longest-line, lines}
 use Rattle.listing.specs.declared.cursors.Lead.{Lead}
 use Rattle.listing.specs.declared.cursors.Lead.the-variants as lead
 use Rattle.listing.specs.Cursor.{lead-text}
 
 -- the four fields of a line, put one after the other
-pub line-put : (v : Visit) (d : List ℕ) (at : ℕ) (r₁ : ℕ) (e₁ : List ℕ) (r₂ : ℕ) (e₂ : List ℕ) (r₃ : ℕ) (e₃ : List ℕ) (r₄ : ℕ) (e₄ : List ℕ)
+pub line-put : (v : FileVisit) (d : List ℕ) (at : ℕ) (r₁ : ℕ) (e₁ : List ℕ) (r₂ : ℕ) (e₂ : List ℕ) (r₃ : ℕ) (e₃ : List ℕ) (r₄ : ℕ) (e₄ : List ℕ)
     → at + longest-line ≤ length d → Wrote longest-number d at (number-text (v .number) 32) r₁ e₁ → Wrote longest-number e₁ r₁
     (number-text (v .index) 32) r₂ e₂
     → Wrote longest-signed e₂ r₂ (signed-text (v .x) 32) r₃ e₃ → Wrote longest-signed e₃ r₃ (signed-text (v .y) 10) r₄ e₄ → Put d at (line v) r₄ e₄
@@ -49,7 +49,7 @@ line-put v d at r₁ e₁ r₂ e₂ r₃ e₃ r₄ e₄ h w₁ w₂ w₃ w₄ =
     (omega arith))
     (omega arith)
 
-pub line-longest : (v : Visit) → length (line v) ≤ longest-line
+pub line-longest : (v : FileVisit) → length (line v) ≤ longest-line
 unfolding line
 line-longest v =
     let s₁ = number-text (v .number) 32 in
@@ -67,7 +67,7 @@ line-longest v =
       signed-longest (v .y) 10,
     )
 
-pub line-some : (v : Visit) → 0 < length (line v)
+pub line-some : (v : FileVisit) → 0 < length (line v)
 unfolding line
 line-some v =
     let s₁ = number-text (v .number) 32 in
@@ -85,7 +85,7 @@ pub lines-none : lines [] ≡ []
 unfolding lines
 lines-none = refl
 
-pub lines-more : (v : Visit) (vs : List Visit) → lines (v ∷ vs) ≡ line v ++ lines vs
+pub lines-more : (v : FileVisit) (vs : List FileVisit) → lines (v ∷ vs) ≡ line v ++ lines vs
 unfolding lines
 lines-more v vs = refl
 

@@ -2,7 +2,7 @@
 use Prim.Native.Nat.{ℕ}
 use mathlib.Core.List.{List, [], _++_}
 use Rattle.text.specs.Pieces.{Piece}
-use Rattle.visits.specs.Place.{to-come as visits-to-come}
+use Rattle.visits.specs.FileWalk.{to-come as visits-to-come}
 use Rattle.listing.specs.declared.cursors.Lead.{Lead}
 use Rattle.listing.specs.declared.cursors.Lead.the-variants as lead
 use Rattle.listing.specs.declared.cursors.Cursor.{Cursor}
@@ -16,8 +16,8 @@ lead-text (lead.Refused n) = refused-text n
 
 -- and then the lines of the visits still to come
 unfoldable pub to-come : List ℕ → Cursor → List ℕ
-to-come file c = lead-text (c .lead) ++ lines (visits-to-come file (c .place))
+to-come file c = lead-text (c .lead) ++ lines (visits-to-come file (c .walk))
 
--- what a call of `page` gives in a buffer of `room` bytes: the piece, and the cursor past it
-abbrev pub Paged : List ℕ → Cursor → Cursor → List ℕ → ℕ → Type 0
-Paged file = Piece (to-come file) longest-line
+-- what a call of `piece` gives in a buffer of `room` bytes: the piece, and the cursor past it
+abbrev pub ListingPiece : List ℕ → Cursor → Cursor → List ℕ → ℕ → Type 0
+ListingPiece file = Piece (to-come file) longest-line

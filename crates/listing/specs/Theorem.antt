@@ -5,16 +5,16 @@ use mathlib.Core.List.{List, [], _++_}
 use Rattle.text.specs.Pieces.{join, Pieces}
 use Rattle.listing.specs.declared.cursors.Cursor.{Cursor}
 use Rattle.listing.specs.Listing.{listing, longest-line}
-use Rattle.listing.specs.Cursor.{to-come, Paged}
+use Rattle.listing.specs.Cursor.{to-come, ListingPiece}
 
--- calls of `page` one after the other, each from the cursor that the one before handed back, with any buffers
-abbrev pub Pages : List ℕ → Cursor → List (List ℕ) → Cursor → Type 0
-Pages file = Pieces (to-come file) longest-line
+-- calls of `piece` one after the other, each from the cursor that the one before handed back, with any buffers
+abbrev pub ListingPieces : List ℕ → Cursor → List (List ℕ) → Cursor → Type 0
+ListingPieces file = Pieces (to-come file) longest-line
 
 pub record Theorems : Type 0 where
   -- at any time: the pieces so far and what is to come are the listing, for every file and a cursor c that `open` gives
-  pub so-far : (file : List ℕ) (c d : Cursor) (ps : List (List ℕ)) → to-come file c ≡ listing file → Pages file c ps d
+  pub so-far : (file : List ℕ) (c d : Cursor) (ps : List (List ℕ)) → to-come file c ≡ listing file → ListingPieces file c ps d
       → join ps ++ to-come file d ≡ listing file
   -- up to an empty piece in a buffer with room for a line: the listing
-  pub whole : (file : List ℕ) (c d e : Cursor) (ps : List (List ℕ)) (room : ℕ) → to-come file c ≡ listing file → Pages file c ps d
-      → Paged file d e [] room → longest-line ≤ room → join ps ≡ listing file
+  pub whole : (file : List ℕ) (c d e : Cursor) (ps : List (List ℕ)) (room : ℕ) → to-come file c ≡ listing file → ListingPieces file c ps d
+      → ListingPiece file d e [] room → longest-line ≤ room → join ps ≡ listing file

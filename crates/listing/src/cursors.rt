@@ -1,15 +1,15 @@
 // Where a listing stands, and its next piece.
 use crate::lines::LONGEST_LINE;
 use crate::lines::put_lines;
+use visits::FileWalk;
 use visits::Opened;
-use visits::Place;
 ghost use mathlib.Core.Path.{_≡_};
 ghost use Prim.Native.Nat.{_≤_};
 ghost use lib.ListN.{length, take, drop};
 ghost use Rattle.text.specs.Put.{put};
 ghost use Rattle.text.specs.Pieces.{Counts};
 ghost use Rattle.listing.specs.Listing.{listing, longest-line};
-ghost use Rattle.listing.specs.Cursor.{lead-text, to-come, Paged};
+ghost use Rattle.listing.specs.Cursor.{lead-text, to-come, ListingPiece};
 
 // What stands before the lines that are still to come.
 pub enum Lead {
@@ -20,11 +20,11 @@ pub enum Lead {
 
 pub struct Cursor {
     pub lead: Lead,
-    pub place: Place,
+    pub walk: FileWalk,
 }
 
 // The first len bytes of the buffer are the piece, and next is past it.
-pub struct Page {
+pub struct Piece {
     pub len: usize,
     pub next: Cursor,
 }
@@ -49,38 +49,38 @@ impl Cursor {
     pub fn open(file: &[u8]) -> Cursor
         ensures { λ r. ⌜ to-come (now (file .entry)) r ≡ listing (now (file .entry)) ⌝ }
     {
-        let opened = Place::open(file);
+        let opened = FileWalk::open(file);
         match opened {
-            Opened::Open(place) => Cursor {
+            Opened::Open(walk) => Cursor {
                 lead: Lead::Header,
-                place,
+                walk,
             },
             Opened::Refused(why) => Cursor {
                 lead: Lead::Refused(why.number()),
-                place: Place::ended(),
+                walk: FileWalk::ended(),
             },
         }
     }
 
     // The next piece, as long as the buffer has room for the longest line; bytes past it keep their content.
-    pub fn page(self, file: &[u8], out: &mut [u8]) -> Page
+    pub fn piece(self, file: &[u8], out: &mut [u8]) -> Piece
         ensures counts { λ r. ⌜ Counts (r .len) (now (out .exit)) ⌝ }
-        ensures piece { λ r. ⌜ Paged (now (file .entry)) self (r .next) (take (r .len) (now (out .exit))) (length (now (out .exit))) ⌝ }
+        ensures piece { λ r. ⌜ ListingPiece (now (file .entry)) self (r .next) (take (r .len) (now (out .exit))) (length (now (out .exit))) ⌝ }
         ensures rest { λ r. ⌜ drop (r .len) (now (out .exit)) ≡ drop (r .len) (now (out .entry)) ⌝ }
     {
         if out.len() < LONGEST_LINE {
-            return Page { len: 0, next: self };
+            return Piece { len: 0, next: self };
         }
         let lead = self.lead;
-        let start = self.place;
+        let start = self.walk;
         let at = put_lead(lead, out);
         let filled = put_lines(file, start, out, at);
-        let place = filled.place;
-        Page {
+        let walk = filled.walk;
+        Piece {
             len: filled.len,
             next: Cursor {
                 lead: Lead::Nothing,
-                place,
+                walk,
             },
         }
     }

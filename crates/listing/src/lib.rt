@@ -5,4 +5,4 @@ mod lines;
 
 pub use cursors::Cursor;
 pub use cursors::Lead;
-pub use cursors::Page;
+pub use cursors::Piece;

@@ -1,7 +1,7 @@
 // The lines of visits, as many as have room.
-use visits::Place;
+use visits::FileVisit;
+use visits::FileWalk;
 use visits::Step;
-use visits::Visit;
 ghost use mathlib.Core.Path.{_≡_};
 ghost use Prim.Native.Nat.{_+_, _≤_};
 ghost use lib.ListN.{length};
@@ -14,11 +14,11 @@ pub(crate) const LONGEST_LINE: usize = 46;
 
 pub(crate) struct Filled {
     pub len: usize,
-    pub place: Place,
+    pub walk: FileWalk,
 }
 
 // Four fields, one space between, and a line feed.
-fn put_line(visit: Visit, out: &mut [u8], at: usize) -> usize
+fn put_line(visit: FileVisit, out: &mut [u8], at: usize) -> usize
     requires { ⌜ at + longest-line ≤ length (now out) ⌝ }
     ensures end { λ r. ⌜ r ≡ at + length (line visit) ⌝ }
     ensures text { λ _. ⌜ now (out .exit) ≡ put (now (out .entry)) at (line visit) ⌝ }
@@ -31,22 +31,22 @@ fn put_line(visit: Visit, out: &mut [u8], at: usize) -> usize
     text::signed_number(y, 10, out, fourth)
 }
 
-// The lines to come from a place, each while the longest line has room.
-pub(crate) fn put_lines(file: &[u8], start: Place, out: &mut [u8], at: usize) -> Filled
+// The lines to come from a walk, each while the longest line has room.
+pub(crate) fn put_lines(file: &[u8], start: FileWalk, out: &mut [u8], at: usize) -> Filled
     requires { ⌜ at ≤ length (now out) ⌝ }
-    ensures { λ r. ⌜ LinesPut (now (file .entry)) start (now (out .entry)) at (r .place) (now (out .exit)) (r .len) ⌝ }
+    ensures { λ r. ⌜ LinesPut (now (file .entry)) start (now (out .entry)) at (r .walk) (now (out .exit)) (r .len) ⌝ }
 {
-    let mut place = start;
+    let mut walk = start;
     let mut len = at;
     while out.len() - len >= LONGEST_LINE {
-        let stepped = place.step(file);
+        let stepped = walk.step(file);
         let answer = stepped.step;
-        let next = stepped.place;
-        place = next;
+        let next = stepped.walk;
+        walk = next;
         let Step::Visited(visit) = answer else {
-            return Filled { len, place };
+            return Filled { len, walk };
         };
         len = put_line(visit, out, len);
     }
-    Filled { len, place }
+    Filled { len, walk }
 }

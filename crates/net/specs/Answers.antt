@@ -3,7 +3,7 @@ use mathlib.Core.Path.{_≡_}
 use mathlib.Core.Logic.{_≢_, _↔_}
 use mathlib.Core.List.{List}
 use Prim.Native.Nat.{ℕ, _^_, _≤_, _<_}
-use Rattle.linear.specs.Unique.{Only}
+use Rattle.ranges.specs.Unique.{Only}
 use Rattle.net.specs.Generators.{Generators}
 use Rattle.net.specs.Sequence.{VisitIn, Finds, Crowded, Least}
 use Rattle.net.specs.Finish.{Finish, plain, digital, shifted}

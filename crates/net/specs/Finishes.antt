@@ -4,7 +4,7 @@ use mathlib.Core.List.{List}
 use Prim.Native.Nat.{ℕ, suc, _-_, _*_, _%_, _^_, _≤_, _<_}
 use lib.ListN.{length, getD}
 use Rattle.digits.specs.Digits.{digit, plus, minus}
-use Rattle.linear.specs.Unique.{Only}
+use Rattle.ranges.specs.Unique.{Only}
 use Rattle.linear.specs.Matrix.{sum}
 use Rattle.net.specs.Generators.{entry, product}
 use Rattle.net.specs.Sequence.{Sequence, top, VisitIn}

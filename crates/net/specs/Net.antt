@@ -4,7 +4,7 @@ use mathlib.Core.Logic.{_≢_, _↔_}
 use Prim.Native.Nat.{ℕ, suc, _+_, _-_, _*_, _/_, _%_, _^_, _≤_, _<_}
 use lib.ListN.{getD}
 use Rattle.digits.specs.Digits.{reversed, plus}
-use Rattle.linear.specs.Unique.{Only}
+use Rattle.ranges.specs.Unique.{Only}
 use Rattle.net.specs.Generators.{Generators, Valid, entry, product}
 use Rattle.net.specs.Sequence.{VisitIn, Finds, column-less, row-less, Apart, Alone}
 use Rattle.net.specs.Finish.{Finish, plain, digital, Lawful, shifted}

@@ -4,7 +4,8 @@ use Rattle.net.specs.Generators.{Generators}
 use Rattle.net.specs.Sequence.{Sequence, lies}
 use Rattle.net.specs.Finish.{Finish, plain, digital}
 use Rattle.net.specs.Shape.{determinant}
-use Rattle.net.specs.Check.{search, least-index}
+use Rattle.ranges.specs.Search.{search}
+use Rattle.net.specs.Check.{least-index}
 
 -- the first index of block k in column c and row r; where there is none, the first of the next block
 unfoldable pub visit-index : Sequence → ℕ → ℕ → ℕ → ℕ → ℕ → ℕ

@@ -5,7 +5,7 @@ use mathlib.Core.Bool.{Bool, _&&_}
 use Prim.Native.Nat.{ℕ, _+_, _-_, _*_, _/_, _^_, _≤_, _<_}
 use lib.Dec.{eqb}
 use Rattle.digits.specs.Digits.{minus}
-use Rattle.linear.specs.Unique.{Only}
+use Rattle.ranges.specs.Unique.{Only}
 
 -- for each index a point, by its two coordinates of R digits in base b
 pub record Sequence : Type 0 where

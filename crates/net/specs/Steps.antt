@@ -4,7 +4,7 @@ use Prim.Native.Nat.{ℕ, suc, _+_, _-_, _*_, _^_, _<_, min}
 use lib.ListN.{take, drop}
 use Rattle.net.specs.Sequence.{Sequence, Finds}
 use Rattle.net.specs.Run.{visit, visits, run, hits}
-use Rattle.net.specs.Walk.{Walk, answers, after, given, told}
+use Rattle.ranges.specs.Walk.{Walk, answers, after, given, told}
 
 -- Where a block visits each interval once, its run has one visit in each. The n visits from index p of a block on, as far as they go
 -- into the block, are the run from there.
@@ -12,17 +12,6 @@ pub record Runs (S : Sequence) (m k : ℕ) : Type 0 where
   pub one-hit : (a : ℕ) (find : ℕ → ℕ → ℕ) → Finds S m a k find
       → (c r : ℕ) → c < S .b ^ a → r < S .b ^ (m - a) → hits S m a c r (run S m k) ≡ 1
   pub part : (p n : ℕ) → take (S .b ^ m - p) (visits S (k * S .b ^ m + p) n) ≡ take n (drop p (run S m k))
-
--- ONE claim about the list of n steps on a walk opened at `start` with `count`, steps after the end included: the visits of the
--- indexes from the start on, as many as the smaller of n and count, and then the end. And what the last walk holds.
-pub record Walked {A : Type 0} (visit-of : ℕ → A) (last start count n : ℕ) : Type 0 where
-  pub list : answers visit-of last n (record { next = start; left = count }) ≡ given visit-of n start count
-  pub next : after visit-of last n (record { next = start; left = count }) .next ≡ min (start + min n count) last
-  pub left : after visit-of last n (record { next = start; left = count }) .left ≡ count - n
-
--- the list for a walk made by hand: it gives no visit past the last index
-pub record WalkedByHand {A : Type 0} (visit-of : ℕ → A) (last : ℕ) (w : Walk) (n : ℕ) : Type 0 where
-  pub list : answers visit-of last n w ≡ given visit-of n (w .next) (min (w .left) (suc last - w .next))
 
 -- the visits that n steps give on a walk opened at the first index of block k, as far as they go into the block, are the run
 pub record WalkedRun (S : Sequence) (m k last count n : ℕ) : Type 0 where

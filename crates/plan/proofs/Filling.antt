@@ -7,7 +7,7 @@ use Prim.Native.Nat.{ℕ}
 use borrow.Author.Tests.{eq-eqb, ne-eqb}
 use lib.ListN.{length}
 use Rattle.net.specs.Sequence.{Sequence}
-use Rattle.net.specs.Run.{range}
+use Rattle.ranges.specs.Range.{range}
 use Rattle.refusal.specs.Outcome.{accepted, refused}
 use Rattle.refusal.proofs.First.{first-none, first-refuses, first-passes, granted-accepted, granted-refused}
 use Rattle.plan.specs.Range.{past-last}

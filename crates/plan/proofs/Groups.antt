@@ -14,13 +14,13 @@ use Rattle.digits.specs.Digits.{plus}
 use Rattle.digits.proofs.Arithmetic.{plus-comm, plus-assoc, plus-zero, plus-split}
 use Rattle.digits.proofs.Two.{one-lt-two, plus-two}
 use Rattle.net.specs.Generators.{product}
-use Rattle.net.specs.Run.{range}
+use Rattle.ranges.specs.Range.{range}
 use Rattle.net.proofs.Product.{product-plus}
-use Rattle.net.proofs.Run.{getD-each}
+use Rattle.ranges.proofs.Range.{getD-each}
 use Rattle.net.proofs.Two.{trailing-zeros-lowest}
 use Rattle.word.specs.Coordinate.{shifted-coordinate}
 use Rattle.word.specs.Prefix.{ones, prefixes}
-use Rattle.word.proofs.Filled.{Filled, filled-none, filled-more, filled-part, filled-all}
+use Rattle.ranges.proofs.Filled.{Filled, filled-none, filled-more, filled-part, filled-all}
 use Rattle.word.proofs.Prefix.{product-next, lowest-lt}
 
 -- the place of the lowest bit is within the running sums

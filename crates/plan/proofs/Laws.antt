@@ -7,8 +7,8 @@ use Rattle.digits.proofs.Two.{one-lt-two}
 use Rattle.net.specs.Generators.{Valid}
 use Rattle.net.specs.Sequence.{Sequence, point}
 use Rattle.net.specs.Run.{Visit, visit}
-use Rattle.net.specs.Walk.{Walk, Stepped, visited}
-use Rattle.net.proofs.Below.{below-of}
+use Rattle.ranges.specs.Walk.{Walk, Stepped, visited}
+use Rattle.ranges.proofs.Below.{below-of}
 use Rattle.plan.specs.Pair.{pair}
 
 -- a point by its coordinates

@@ -7,11 +7,12 @@ use borrow.Author.Tests.{ltb-false, not-false, eqb-true}
 use lib.Dec.{eqb, ltb}
 use lib.ListN.{length}
 use Rattle.net.specs.Sequence.{Sequence}
-use Rattle.net.specs.Run.{Visit, range, visit, visits}
-use Rattle.net.specs.Walk.{Walk, answers, given, told}
-use Rattle.net.specs.Steps.{Walked}
-use Rattle.net.proofs.Walk as net
-use Rattle.net.proofs.Walk.{told-given, list-within}
+use Rattle.ranges.specs.Range.{range}
+use Rattle.net.specs.Run.{Visit, visit, visits}
+use Rattle.ranges.specs.Walk.{Walk, answers, given, told}
+use Rattle.ranges.specs.Theorem.{Walked}
+use Rattle.ranges.proofs.Walk as ranges
+use Rattle.ranges.proofs.Walk.{told-given, list-within}
 use Rattle.refusal.specs.Outcome.{accepted, first}
 use Rattle.refusal.proofs.First.{first-none, first-accepted}
 use Rattle.plan.specs.Fill.{fill-outcome, filled}
@@ -61,4 +62,4 @@ module _ (S : Sequence) (start count : ℕ) (w : Walk) (accepts : open-outcome s
   walk-visits = ap told steps ∙ told-given (visit S) n start count
 
   pub last-walk : start ≤ last-index → Walked (visit S) last-index start count n
-  last-walk from = net.walked (visit S) last-index start count n from (within start count w accepts)
+  last-walk from = ranges.walked (visit S) last-index start count n from (within start count w accepts)

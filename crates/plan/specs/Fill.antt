@@ -5,7 +5,7 @@ use Prim.Native.Nat.{ℕ}
 use lib.Dec.{eqb}
 use lib.ListN.{length}
 use Rattle.net.specs.Sequence.{Sequence}
-use Rattle.net.specs.Run.{range}
+use Rattle.ranges.specs.Range.{range}
 use Rattle.refusal.specs.Outcome.{Outcome, accepted, Test, first, granted}
 use Rattle.plan.specs.Range.{past-last}
 

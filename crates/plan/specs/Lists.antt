@@ -2,8 +2,9 @@
 use mathlib.Core.List.{List, [], _∷_, map}
 use Prim.Native.Nat.{ℕ, suc}
 use Rattle.net.specs.Sequence.{Sequence, point}
-use Rattle.net.specs.Run.{Visit, range, visit}
-use Rattle.net.specs.Walk.{Walk, answers, told}
+use Rattle.ranges.specs.Range.{range}
+use Rattle.net.specs.Run.{Visit, visit}
+use Rattle.ranges.specs.Walk.{Walk, answers, told}
 use Rattle.plan.specs.Range.{last-index}
 use Rattle.plan.specs.Fill.{Buffers}
 

@@ -2,7 +2,7 @@
 use mathlib.Core.List.{[], _∷_}
 use Prim.Native.Nat.{ℕ}
 use Rattle.net.specs.Run.{Visit}
-use Rattle.net.specs.Walk.{Walk, Answer, visited, ended, Stepped}
+use Rattle.ranges.specs.Walk.{Walk, Answer, visited, ended, Stepped}
 use Rattle.refusal.specs.Outcome.{Outcome, accepted, first}
 use Rattle.refusal.specs.Refusal.{of-refusal}
 use Rattle.plan.specs.Range.{past-last}

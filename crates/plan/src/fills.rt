@@ -5,7 +5,7 @@ ghost use Prim.Native.Nat.{_+_, _%_, _≤_, _<_, _^_};
 ghost use lib.Count.{trailingZeros};
 ghost use lib.ListN.{length, getD};
 ghost use Rattle.digits.specs.Digits.{plus};
-ghost use Rattle.net.specs.Run.{range};
+ghost use Rattle.ranges.specs.Range.{range};
 ghost use Rattle.word.specs.Coordinate.{shifted-coordinate};
 ghost use Rattle.word.specs.Prefix.{prefixes};
 ghost use Rattle.refusal.specs.Refusal.{of-judgement};

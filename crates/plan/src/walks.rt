@@ -1,7 +1,7 @@
 // A walk over visits, stepped by value: a step hands back the visit or the end, together with the walk after it.
 ghost use mathlib.Core.Path.{_≡_};
 ghost use Rattle.net.specs.Run.{visit};
-ghost use Rattle.net.specs.Walk.{step};
+ghost use Rattle.ranges.specs.Walk.{step};
 ghost use Rattle.plan.specs.Pair.{sequence};
 ghost use Rattle.plan.specs.Range.{last-index};
 ghost use Rattle.plan.specs.Walk.{open-outcome, of-opened, of-walk, of-stepped};

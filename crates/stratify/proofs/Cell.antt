@@ -5,7 +5,7 @@ use Prim.Native.Nat.{ℕ, _+_, _-_, _*_, _^_, _<_}
 use native.Mathlib.Nat.{lt-of-lt-of-le}
 use lib.Pow.{pow-mono}
 use Rattle.digits.proofs.Two.{one-lt-two}
-use Rattle.linear.specs.Unique.{Only}
+use Rattle.ranges.specs.Unique.{Only}
 use Rattle.net.specs.Sequence.{Fits, VisitIn}
 use Rattle.net.specs.Finish.{plain, shifted}
 use Rattle.net.specs.Shape.{Shape}

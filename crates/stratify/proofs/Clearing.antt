@@ -11,7 +11,7 @@ use lib.ListN.{length, getD, set, length-set}
 use lib.Seq.{getD-set-same, getD-set-other}
 use Rattle.digits.proofs.Digit.{pow-pos, pow-one}
 use Rattle.digits.proofs.Two.{one-lt-two}
-use Rattle.linear.proofs.Cases.{lt-or-ge}
+use Rattle.ranges.proofs.Order.{lt-or-ge}
 use Rattle.word.proofs.Turn.{one-shifted}
 use Rattle.stratify.specs.Basis.{added, Clears, Stays}
 

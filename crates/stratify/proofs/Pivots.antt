@@ -11,7 +11,7 @@ use Rattle.digits.proofs.Digit.{digit-lt, digit-zero}
 use Rattle.digits.proofs.Two.{one-lt-two, digit-xor}
 use Rattle.linear.specs.Matrix.{Matrix, sum, image, det}
 use Rattle.linear.specs.Solution.{Trivial}
-use Rattle.linear.proofs.Cases.{lt-or-ge}
+use Rattle.ranges.proofs.Order.{lt-or-ge}
 use Rattle.linear.proofs.Prime.{two}
 use Rattle.linear.proofs.Sum.{sum-ext, sum-at}
 use Rattle.linear.proofs.Modulo.{nonzero-iff}

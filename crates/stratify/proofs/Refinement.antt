@@ -13,7 +13,7 @@ use Rattle.digits.specs.Digits.{plus, minus}
 use Rattle.digits.proofs.Arithmetic.{zero-plus}
 use Rattle.digits.proofs.Two.{one-lt-two}
 use Rattle.linear.proofs.Prime.{two}
-use Rattle.linear.proofs.Cases.{lt-or-ge}
+use Rattle.ranges.proofs.Order.{lt-or-ge}
 use Rattle.net.specs.Finish.{plain}
 use Rattle.net.specs.Shape.{Shape}
 use Rattle.net.specs.Sequence.{Least}

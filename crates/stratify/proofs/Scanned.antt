@@ -9,7 +9,7 @@ use borrow.Author.Tests.{lt-ltb, le-ltb}
 use lib.ListN.{getD}
 use Rattle.digits.specs.Digits.{digit}
 use Rattle.linear.specs.Matrix.{Matrix}
-use Rattle.linear.proofs.Cases.{lt-or-ge}
+use Rattle.ranges.proofs.Order.{lt-or-ge}
 use Rattle.net.specs.Generators.{entry}
 use Rattle.net.specs.Shape.{matrix}
 use Rattle.net.specs.Check.{Cleared}

@@ -6,7 +6,7 @@ use Prim.Native.Nat.{ℕ, _-_, _/_, _^_, _≤_, _<_}
 use native.Mathlib.Nat.{div-eq-of-lt}
 use borrow.Author.Tests.{le-leb, lt-leb}
 use lib.Dec.{leb}
-use Rattle.linear.proofs.Cases.{lt-or-ge}
+use Rattle.ranges.proofs.Order.{lt-or-ge}
 use Rattle.stratify.specs.Answers.{not-a-cell}
 
 pub past-limit : (n w : ℕ) → (n / 2 ^ w ≡ 0 → ⊥) → 2 ^ w ≤ n

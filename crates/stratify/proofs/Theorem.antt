@@ -10,9 +10,10 @@ use lib.Dec.{eqb}
 use lib.ListN.{length, take}
 use Rattle.digits.specs.Digits.{minus}
 use Rattle.digits.proofs.Two.{one-lt-two, minus-two}
-use Rattle.linear.specs.Unique.{Only, One}
+use Rattle.ranges.specs.Unique.{Only, One}
 use Rattle.linear.proofs.Prime.{two}
-use Rattle.net.specs.Generators.{Below, Valid}
+use Rattle.ranges.specs.Below.{Below}
+use Rattle.net.specs.Generators.{Valid}
 use Rattle.net.specs.Sequence.{Sequence, column, row, VisitIn}
 use Rattle.net.specs.Finish.{plain, Lawful}
 use Rattle.net.specs.Shape.{Shape, Passes}
@@ -22,11 +23,12 @@ use Rattle.net.specs.Net.{Net}
 use Rattle.net.specs.Answers.{Located, Checked as NetChecked}
 use Rattle.net.specs.Run.{Visit, visits, run, hits}
 use Rattle.net.specs.Standard.{standard}
-use Rattle.net.proofs.Below.{below-take, below-drop}
+use Rattle.ranges.proofs.Below.{below-take, below-drop}
 use Rattle.net.proofs.Finish.{shift-lawful}
 use Rattle.net.proofs.Check.{nonzero, least-index-least}
 use Rattle.net.proofs.Query.{locate-found}
-use Rattle.net.proofs.Run.{take-each}
+use Rattle.ranges.proofs.Range.{take-each}
+use Rattle.ranges.proofs.Theorem as ranges
 use Rattle.net.proofs.Theorem as net
 use Rattle.refusal.specs.Outcome.{accepted}
 use Rattle.refusal.proofs.First.{first-accepted}
@@ -35,7 +37,7 @@ use Rattle.plan.specs.declared.pair.Shift.{Shift}
 use Rattle.plan.specs.Pair.{generators, finish, sequence, largest-level, unknown-level, Level, loaded}
 use Rattle.plan.specs.Range.{last-index}
 use Rattle.plan.specs.Lists.{walked}
-use Rattle.net.specs.Walk.{Walk}
+use Rattle.ranges.specs.Walk.{Walk}
 use Rattle.plan.proofs.Loading.{loaded-accepted}
 use Rattle.plan.proofs.Lists.{filled-visits, opened, within, steps, walk-visits, last-walk}
 use Rattle.stratify.specs.Answers.{of-verdict, of-location, check-outcome, query-outcome, ShiftFits, Cell}
@@ -179,7 +181,7 @@ lists P s = record {
   steps = steps (sequence P s);
   walks = walk-visits (sequence P s);
   last-walk = λ start count w e from n. last-walk (sequence P s) start count w e n from;
-  by-hand = net.theorems .walked-by-hand _ last-index;
+  by-hand = ranges.theorems .walked-by-hand _ last-index;
 }
 
 gives-run : (P : Plan) (s : Shift) (m k : ℕ) → GivesRun P s m k

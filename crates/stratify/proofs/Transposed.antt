@@ -11,7 +11,7 @@ use lib.Seq.{getD-set-same, getD-set-other}
 use Rattle.digits.specs.Digits.{digit}
 use Rattle.digits.proofs.Digit.{pow-pos, digit-cons-low, digit-cons-suc}
 use Rattle.digits.proofs.Two.{one-lt-two}
-use Rattle.linear.proofs.Cases.{lt-or-ge}
+use Rattle.ranges.proofs.Order.{lt-or-ge}
 
 -- the bits d c, d (c + 1), .., d 31 are in the word
 pub record From (d : ℕ → ℕ) (c word : ℕ) : Type 0 where

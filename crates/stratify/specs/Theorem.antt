@@ -7,16 +7,17 @@ use mathlib.Core.List.{List}
 use Prim.Native.Nat.{ℕ, _+_, _-_, _*_, _%_, _^_, _≤_, _<_, min}
 use lib.Bits.{bitXor}
 use lib.ListN.{length, getD, take, drop}
-use Rattle.linear.specs.Unique.{Only, One}
-use Rattle.net.specs.Generators.{Below, Valid, entry}
+use Rattle.ranges.specs.Unique.{Only, One}
+use Rattle.ranges.specs.Below.{Below}
+use Rattle.net.specs.Generators.{Valid, entry}
 use Rattle.net.specs.Sequence.{column, row, VisitIn, Crowded, Least}
 use Rattle.net.specs.Finish.{plain}
 use Rattle.net.specs.Shape.{determinant, Passes}
 use Rattle.net.specs.Check.{First, FirstZero}
 use Rattle.net.specs.Run.{visit, visits, run, hits}
 use Rattle.net.specs.Standard.{binomial}
-use Rattle.net.specs.Walk.{Walk, answers, given}
-use Rattle.net.specs.Steps.{Walked, WalkedByHand}
+use Rattle.ranges.specs.Walk.{Walk, answers, given}
+use Rattle.ranges.specs.Theorem.{Walked, WalkedByHand}
 use Rattle.refusal.specs.Outcome.{accepted, not-net}
 use Rattle.plan.specs.declared.pair.Plan.{Plan}
 use Rattle.plan.specs.declared.pair.Shift.{Shift}

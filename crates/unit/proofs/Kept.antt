@@ -11,7 +11,7 @@ use lib.Ieee.{Float, nan, inf, fin, binary32, up, down, odd, ofBits}
 use lib.Ieee.Exact.{HasValue, odd-sign}
 use lib.Ieee.Fits.{down-pos}
 use lib.Ieee.Nearest.{div-same}
-use Rattle.linear.proofs.Cases.{lt-or-ge}
+use Rattle.ranges.proofs.Order.{lt-or-ge}
 use Rattle.net.specs.Sequence.{top}
 use Rattle.unit.specs.Quotient.{leading-digits, lower-single}
 use Rattle.unit.specs.Theorem.{Places, Shortfall, InStrip}

@@ -15,7 +15,7 @@ use lib.Ieee.Bits.{ofBits-fits}
 use lib.Ieee.Exact.{HasValue}
 use lib.Ieee.Fits.{and-l, and-r, down-pos}
 use lib.Ieee.Order.{le-of-values}
-use Rattle.linear.proofs.Cases.{lt-or-ge}
+use Rattle.ranges.proofs.Order.{lt-or-ge}
 use Rattle.unit.specs.Quotient.{nearest-double, lower-bits, lower-single}
 use Rattle.unit.specs.Theorem.{Places, Largest}
 use Rattle.unit.proofs.Powers.{powers, three-powers}

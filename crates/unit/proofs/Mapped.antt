@@ -3,11 +3,11 @@ use mathlib.Core.Path.{_≡_, sym, ap, _∙_}
 use mathlib.Core.Logic.{_⊎_, inl, inr, _≢_}
 use Prim.Native.Nat.{ℕ, zero, suc, _≤_, _<_}
 use native.Mathlib.Omega.{arith}
-use Rattle.linear.proofs.Cases.{lt-or-ge, eq-or-ne}
+use Rattle.ranges.proofs.Order.{lt-or-ge, eq-or-ne}
 use Rattle.net.specs.Sequence.{Sequence}
 use Rattle.net.specs.Run.{Visit, visit}
-use Rattle.net.specs.Walk.{Walk, Answer, visited, ended, Stepped, step}
-use Rattle.net.proofs.Walk.{step-none, step-past, step-last, step-more}
+use Rattle.ranges.specs.Walk.{Walk, Answer, visited, ended, Stepped, step}
+use Rattle.ranges.proofs.Walk.{step-none, step-past, step-last, step-more}
 use Rattle.plan.specs.declared.walks.Step.{Step as StepCode}
 use Rattle.plan.specs.declared.walks.Stepped.{Stepped as SteppedCode}
 use Rattle.plan.specs.Range.{last-index}

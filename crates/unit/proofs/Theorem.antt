@@ -6,8 +6,8 @@ use lib.Dec.{lit<}
 use lib.Ieee.{fin, ofBits}
 use mathlib.Core.Bool.{false}
 use Rattle.net.specs.Sequence.{Sequence, top}
-use Rattle.net.specs.Walk.{Walk, answers, given}
-use Rattle.net.proofs.Walk.{list-within}
+use Rattle.ranges.specs.Walk.{Walk, answers, given}
+use Rattle.ranges.proofs.Walk.{list-within}
 use Rattle.refusal.specs.Outcome.{accepted}
 use Rattle.plan.specs.Range.{last-index}
 use Rattle.plan.specs.Walk.{open-outcome}

@@ -9,7 +9,7 @@ use lib.IntN.{pos}
 use lib.Ieee.{Float, nan, inf, fin, Format, binary32, up, down, fits, le, toBits}
 use lib.Ieee.Exact.{HasValue}
 use Rattle.net.specs.Sequence.{Sequence, top}
-use Rattle.net.specs.Walk.{Walk, answers, given}
+use Rattle.ranges.specs.Walk.{Walk, answers, given}
 use Rattle.refusal.specs.Outcome.{accepted}
 use Rattle.plan.specs.Range.{last-index}
 use Rattle.plan.specs.Walk.{open-outcome}

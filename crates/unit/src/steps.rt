@@ -1,6 +1,6 @@
 // A step of a walk with the point of its visit as singles.
 ghost use mathlib.Core.Path.{_≡_};
-ghost use Rattle.net.specs.Walk.{step};
+ghost use Rattle.ranges.specs.Walk.{step};
 ghost use Rattle.plan.specs.Pair.{sequence};
 ghost use Rattle.plan.specs.Range.{last-index};
 ghost use Rattle.plan.specs.Walk.{of-walk};

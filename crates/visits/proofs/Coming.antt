@@ -1,4 +1,4 @@
--- What is to come from a place, by the cases of the code, and of an accepted file.
+-- What is to come from a walk, by the cases of the code, and of an accepted file.
 -- Assumes nothing.
 use mathlib.Core.Path.{_≡_, refl, sym, ap, _∙_}
 use mathlib.Core.Bool.{Bool, true, false, not, _&&_, true≢false}
@@ -9,7 +9,7 @@ use native.Mathlib.Nat.{lt-irrefl, le-refl}
 use native.Mathlib.Omega.{arith}
 use lib.Dec.{eqb, leb}
 use borrow.Author.Tests.{eq-eqb, ne-eqb, le-leb, lt-leb, not-false}
-use Rattle.net.specs.Run.{range}
+use Rattle.ranges.specs.Range.{range}
 use Rattle.refusal.specs.Outcome.{accepted, refused}
 use Rattle.refusal.proofs.First.{first-none, first-passes, first-accepted, accepted-refused, accepted-same}
 use Rattle.stage.specs.declared.regions.Position.{Position}
@@ -18,10 +18,10 @@ use Rattle.region_file.specs.declared.fields.Record.{Record}
 use Rattle.region_file.specs.Fields.{records}
 use Rattle.region_file.specs.Judge.{chain}
 use Rattle.region_file.proofs.Chain.{Linked, linked, chain-some}
-use Rattle.visits.specs.declared.place.Visit.{Visit}
-use Rattle.visits.specs.declared.place.Place.{Place}
+use Rattle.visits.specs.declared.file_walks.FileVisit.{FileVisit}
+use Rattle.visits.specs.declared.file_walks.FileWalk.{FileWalk}
 use Rattle.visits.specs.Visits.{planned, position-of, visit, stretch, numbers, of-records}
-use Rattle.visits.specs.Place.{listable, from, to-come, leading-to, ended}
+use Rattle.visits.specs.FileWalk.{listable, from, to-come, leading-to, ended}
 use Rattle.visits.specs.Stepping.{position-outcome, past}
 
 -- a stretch of some visits, and of none
@@ -99,12 +99,12 @@ from-more file (suc links) n p h =
 pub from-empty : (file : List ℕ) (links n : ℕ) → 0 < links → listable file n ≡ true → planned file n .count ≤ 0
     → from file links n ≡ from file (links - 1) (planned file n .next)
 from-empty file links n p h e =
-    from-more file links n p h ∙ ap (λ (l : List Visit). l ++ from file (links - 1) (planned file n .next))
+    from-more file links n p h ∙ ap (λ (l : List FileVisit). l ++ from file (links - 1) (planned file n .next))
     (stretch-none n (planned file n) 0 (planned file n .count) e)
 
--- ---- a place
+-- ---- a walk
 
-module _ (file : List ℕ) (p : Place) where
+module _ (file : List ℕ) (p : FileWalk) where
   to-come-within : within (p .planned .region) ≡ true
       → to-come file p ≡ stretch (p .number) (p .planned) (p .index) (p .planned .count - p .index) ++ from file (p .links) (p .planned .next)
   unfolding to-come
@@ -118,11 +118,11 @@ module _ (file : List ℕ) (p : Place) where
   pub to-come-next : within (p .planned .region) ≡ true → p .planned .count ≤ p .index → to-come file p ≡ from file (p .links) (p .planned .next)
   to-come-next e h =
       let none : p .planned .count - p .index ≤ 0 = omega arith in
-      to-come-within e ∙ ap (λ (l : List Visit). l ++ from file (p .links) (p .planned .next))
+      to-come-within e ∙ ap (λ (l : List FileVisit). l ++ from file (p .links) (p .planned .next))
       (stretch-none (p .number) (p .planned) (p .index) (p .planned .count - p .index) none)
 
--- its first visit, and the place past it
-pub to-come-first : (file : List ℕ) (p : Place) → within (p .planned .region) ≡ true → p .index < p .planned .count
+-- its first visit, and the walk past it
+pub to-come-first : (file : List ℕ) (p : FileWalk) → within (p .planned .region) ≡ true → p .index < p .planned .count
     → to-come file p ≡ visit (p .number) (p .planned) (p .index) ∷ to-come file (past p)
 to-come-first file p e h =
     let n = p .number in
@@ -132,11 +132,11 @@ to-come-first file p e h =
     let some : 0 < r .count - i = omega arith in
     let one : r .count - i - 1 ≡ r .count - (i + 1) = omega arith in
     to-come-within file p e
-    ∙ ap (λ (l : List Visit). l ++ rest) (stretch-more n r i (r .count - i) some ∙ ap (λ (k : ℕ). visit n r i ∷ stretch n r (i + 1) k) one)
-    ∙ ap (λ (l : List Visit). visit n r i ∷ l) (sym (to-come-within file (past p) e))
+    ∙ ap (λ (l : List FileVisit). l ++ rest) (stretch-more n r i (r .count - i) some ∙ ap (λ (k : ℕ). visit n r i ∷ stretch n r (i + 1) k) one)
+    ∙ ap (λ (l : List FileVisit). visit n r i ∷ l) (sym (to-come-within file (past p) e))
 
 -- the start of a record
-abbrev pub start-of : ℕ → Record → ℕ → Place
+abbrev pub start-of : ℕ → Record → ℕ → FileWalk
 start-of n r links = record { number = n; planned = r; index = 0; links = links }
 
 pub start-comes : (file : List ℕ) (links n : ℕ) → 0 < links → listable file n ≡ true → to-come file (start-of n (planned file n) (links - 1))

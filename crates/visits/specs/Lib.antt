@@ -1,4 +1,4 @@
 pub mod Visits
-pub mod Place
+pub mod FileWalk
 pub mod Stepping
 pub mod Theorem

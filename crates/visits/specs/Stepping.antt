@@ -1,4 +1,4 @@
--- Inner promises: where the visit at a place lies, and the next record that has one.
+-- Inner promises: where the visit at a walk lies, and the next record that has one.
 use Prim.Native.Nat.{ℕ, _+_, _<_}
 use mathlib.Core.Path.{_≡_}
 use mathlib.Core.Bool.{cond, not, _&&_}
@@ -9,28 +9,28 @@ use Rattle.refusal.specs.Outcome.{Outcome, accepted, first}
 use Rattle.stage.specs.declared.regions.Position.{Position}
 use Rattle.stage.specs.Region.{within, outside}
 use Rattle.region_file.specs.declared.fields.Record.{Record}
-use Rattle.visits.specs.declared.place.Place.{Place}
-use Rattle.visits.specs.declared.place.Step.the-variants as step
-use Rattle.visits.specs.declared.place.Stepped.{Stepped}
+use Rattle.visits.specs.declared.file_walks.FileWalk.{FileWalk}
+use Rattle.visits.specs.declared.file_walks.Step.the-variants as step
+use Rattle.visits.specs.declared.file_walks.Stepped.{Stepped}
 use Rattle.visits.specs.Visits.{position-of, visit}
-use Rattle.visits.specs.Place.{from, to-come}
+use Rattle.visits.specs.FileWalk.{from, to-come}
 
 -- where the visit with index i of a record lies, or 10
 abbrev pub position-outcome : Record → ℕ → Outcome Position
 position-outcome r i = first (outside (r .region) ∷ []) (accepted (position-of r i))
 
--- the place past one visit
-abbrev pub past : Place → Place
+-- the walk past one visit
+abbrev pub past : FileWalk → FileWalk
 past p = record { number = p .number; planned = p .planned; index = p .index + 1; links = p .links }
 
--- the visit at a place, if there is one
-unfoldable pub here : Place → Stepped
+-- the visit at a walk, if there is one
+unfoldable pub here : FileWalk → Stepped
 here p =
     cond (not (leb (p .planned .count) (p .index)) && within (p .planned .region))
-    (record { step = step.Visited (visit (p .number) (p .planned) (p .index)); place = past p })
-    (record { step = step.Ended; place = p })
+    (record { step = step.Visited (visit (p .number) (p .planned) (p .index)); walk = past p })
+    (record { step = step.Ended; walk = p })
 
--- a place from which the visits of the chain from a number on are to come: it has a visit, or none is to come
-pub record Found (file : List ℕ) (n links : ℕ) (p : Place) : Type 0 where
+-- a walk from which the visits of the chain from a number on are to come: it has a visit, or none is to come
+pub record Found (file : List ℕ) (n links : ℕ) (p : FileWalk) : Type 0 where
   pub same : to-come file p ≡ from file links n
   pub ready : (p .index < p .planned .count) ⊎ (to-come file p ≡ [])

@@ -1,11 +1,11 @@
 // The records of the chain as the planner reads them, and the next of them that has a visit.
-use crate::place::Place;
+use crate::file_walks::FileWalk;
 use plan::Shift;
 use region_file::Record;
 use stage::Region;
 ghost use mathlib.Core.Path.{_≡_};
 ghost use Rattle.visits.specs.Visits.{planned};
-ghost use Rattle.visits.specs.Place.{listable, leading-to};
+ghost use Rattle.visits.specs.FileWalk.{listable, leading-to};
 ghost use Rattle.visits.specs.Stepping.{Found};
 
 // Record n as the planner reads it.
@@ -30,11 +30,11 @@ fn listable(file: &[u8], n: u32) -> bool
     region.within()
 }
 
-// A place behind a record without visits, from which the chain goes on at a number, for at most so many records.
-pub(crate) fn leading_to(next: u32, links: u32) -> Place
+// A walk behind a record without visits, from which the chain goes on at a number, for at most so many records.
+pub(crate) fn leading_to(next: u32, links: u32) -> FileWalk
     ensures { λ r. ⌜ r ≡ leading-to next links ⌝ }
 {
-    Place {
+    FileWalk {
         number: 0,
         planned: Record {
             next,
@@ -52,20 +52,20 @@ pub(crate) fn leading_to(next: u32, links: u32) -> Place
     }
 }
 
-// The first record from a number on that has a visit, or a place that has ended.
-pub(crate) fn found(file: &[u8], start: u32, links: u32) -> Place
+// The first record from a number on that has a visit, or a walk that has ended.
+pub(crate) fn found(file: &[u8], start: u32, links: u32) -> FileWalk
     ensures { λ r. ⌜ Found (now (file .entry)) start links r ⌝ }
 {
     let mut n = start;
     let mut left = links;
     while left > 0 {
         if !listable(file, n) {
-            return Place::ended();
+            return FileWalk::ended();
         }
         left -= 1;
         let entry = planned(file, n);
         if 0 < entry.count {
-            return Place {
+            return FileWalk {
                 number: n,
                 planned: entry,
                 index: 0,
@@ -74,5 +74,5 @@ pub(crate) fn found(file: &[u8], start: u32, links: u32) -> Place
         }
         n = entry.next;
     }
-    Place::ended()
+    FileWalk::ended()
 }

@@ -1,9 +1,9 @@
-// The visits of a region file, one by one, in the order of its chain: a place in the file that is stepped by value.
+// The visits of a region file, one by one, in the order of its chain: a walk in the file that is stepped by value.
 mod chain;
-mod place;
+mod file_walks;
 
-pub use place::Opened;
-pub use place::Place;
-pub use place::Step;
-pub use place::Stepped;
-pub use place::Visit;
+pub use file_walks::FileVisit;
+pub use file_walks::FileWalk;
+pub use file_walks::Opened;
+pub use file_walks::Step;
+pub use file_walks::Stepped;

@@ -12,7 +12,7 @@ use native.Mathlib.Numerals.{add-one}
 use Rattle.digits.proofs.Digit.{pow-one, join-lt}
 use Rattle.digits.proofs.Remainder.{join-high, join-low}
 use Rattle.digits.proofs.Arithmetic.{plus-comm, plus-zero, plus-step, plus-split}
-use Rattle.linear.proofs.Cases.{lt-or-ge}
+use Rattle.ranges.proofs.Order.{lt-or-ge}
 use Rattle.net.specs.Generators.{product}
 use Rattle.net.proofs.Choice.{lowest}
 use Rattle.net.proofs.Product.{product-plus, product-pow}

@@ -9,9 +9,9 @@ use lib.Pow.{pow-add}
 use Rattle.digits.specs.Digits.{reversed}
 use Rattle.digits.proofs.Digit.{pow-pos}
 use Rattle.digits.proofs.Reversed.{reversed-parts, reversed-mod, reversed-lt}
-use Rattle.net.specs.Run.{range}
-use Rattle.net.proofs.Run.{getD-each}
-use Rattle.net.proofs.Below.{below-at, below-map}
+use Rattle.ranges.specs.Range.{range}
+use Rattle.ranges.proofs.Range.{getD-each}
+use Rattle.ranges.proofs.Below.{below-at, below-map}
 
 -- the m lowest digits of i reversed, and the digits above them
 pub record Split (b m i rest sum : ℕ) : Type 0 where

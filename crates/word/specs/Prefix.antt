@@ -2,7 +2,7 @@
 use mathlib.Core.List.{List, map}
 use Prim.Native.Nat.{ℕ, zero, suc, _+_, _*_}
 use Rattle.net.specs.Generators.{product}
-use Rattle.net.specs.Run.{range}
+use Rattle.ranges.specs.Range.{range}
 
 -- the number of n digits that are all 1
 unfoldable pub ones : ℕ → ℕ → ℕ

@@ -24,11 +24,11 @@ open-requires c κs = search needs
 loop-holds : tie.Need-loop-holds Inv-loop μ-loop
 loop-holds c = search needs
 
-slice-aggregate-page : tie.Need-slice-aggregate-page Inv-loop μ-loop
-slice-aggregate-page c = search needs
+slice-aggregate-piece : tie.Need-slice-aggregate-piece Inv-loop μ-loop
+slice-aggregate-piece c = search needs
 
-page-requires : tie.Need-page-requires Inv-loop μ-loop
-page-requires c κs = search needs
+piece-requires : tie.Need-piece-requires Inv-loop μ-loop
+piece-requires c κs = search needs
 
 returns : tie.Need-returns Inv-loop μ-loop
 returns c = search needs
@@ -47,7 +47,7 @@ returns-2 c = search needs
 
 loop-less : tie.Need-loop-less Inv-loop μ-loop
 loop-less c =
-    let p = c .before .before .before .before .before .before .page in
+    let p = c .before .before .before .before .before .before .piece in
     let file = now (c .before .before .before .before .before .before .before .before .before .before .before .before .args .file) in
     omega (
       arith,
@@ -70,8 +70,8 @@ list-spec =
     large-buffer-requires
     open-requires
     loop-holds
-    slice-aggregate-page
-    page-requires
+    slice-aggregate-piece
+    piece-requires
     returns
     array-share-prefix-space
     slice-aggregate-write-all

@@ -8,24 +8,24 @@ use native.Mathlib.Omega.{arith}
 use borrow.Author.Needs.{needs}
 use denote.Ref.{now}
 use lib.ListN.{length, take, drop}
-use Rattle.visits.specs.declared.place.Visit.{Visit}
-use Rattle.visits.specs.declared.place.Step.{Step}
-use Rattle.visits.specs.Place.{to-come, Gives}
+use Rattle.visits.specs.declared.file_walks.FileVisit.{FileVisit}
+use Rattle.visits.specs.declared.file_walks.Step.{Step}
+use Rattle.visits.specs.FileWalk.{to-come, Gives}
 use Rattle.listing.specs.Listing.{line, lines}
 use Rattle.listing.proofs.Putting.{line-longest, line-some, lines-more, joined, beyond}
 use Rattle.listing.proofs.lines.put_lines.Statement.{statement}
 use Rattle.listing.proofs.lines.put_lines.Tie as tie
 
 abbrev Inv-loop : tie.InvT-loop
-Inv-loop file out₀ at place₀ len₀ out place len =
+Inv-loop file out₀ at walk₀ len₀ out walk len =
     (at ≤ len)
     × (len ≤ length out)
     × (length out ≡ length out₀)
-    × (take len out ++ lines (to-come file place) ≡ take at out₀ ++ lines (to-come file place₀))
+    × (take len out ++ lines (to-come file walk) ≡ take at out₀ ++ lines (to-come file walk₀))
     × (drop len out ≡ drop len out₀)
 
 abbrev μ-loop : tie.MeasureT-loop
-μ-loop file out₀ at place₀ len₀ out place len = length out - len
+μ-loop file out₀ at walk₀ len₀ out walk len = length out - len
 
 loop-holds : tie.Need-loop-holds Inv-loop μ-loop
 loop-holds c = (le-refl (c .before .before .args .at), c .before .before .pre, refl, refl, refl)
@@ -51,12 +51,12 @@ returns c =
     let l = c .before .before .before .before .before .loop in
     let s = c .before .before .before .step in
     let file = now (a .file) in
-    let g : (to-come file (l .place) ≡ []) × (to-come file (s .result .place) ≡ []) = subst
-    (λ (k : Step). Gives file (l .place) k (s .result .place)) (c .enum-told .given .1) (s .ensures) in
+    let g : (to-come file (l .walk) ≡ []) × (to-come file (s .result .walk) ≡ []) = subst
+    (λ (k : Step). Gives file (l .walk) k (s .result .walk)) (c .enum-told .given .1) (s .ensures) in
     record {
       on = l .inv .0;
       fits = l .inv .1;
-      joins = ap (λ (vs : List Visit). take (l .len) (l .out) ++ lines vs) (g .1 ∙ sym (g .0)) ∙ l .inv .3;
+      joins = ap (λ (vs : List FileVisit). take (l .len) (l .out) ++ lines vs) (g .1 ∙ sym (g .0)) ∙ l .inv .3;
       stops = λ h. g .1;
       beyond = l .inv .4;
     }
@@ -92,8 +92,8 @@ loop-again c =
     let v = c .before .before .before .before .before .answer .given .0 .0 in
     let file = now (a .file) in
     let e = u .last .1 .0 in
-    let rest = to-come file (s .result .place) in
-    let g : to-come file (l .place) ≡ v ∷ rest = subst (λ (k : Step). Gives file (l .place) k (s .result .place))
+    let rest = to-come file (s .result .walk) in
+    let g : to-come file (l .walk) ≡ v ∷ rest = subst (λ (k : Step). Gives file (l .walk) k (s .result .walk))
     (c .before .before .before .before .before .answer .given .1) (s .ensures) in (
       omega (arith, l .inv .0, u .ensures .0),
       omega (

@@ -7,7 +7,7 @@ use borrow.Rule.Slice.PartMut.{putMid}
 use lib.ListN.{length, take, drop, length-drop}
 use lib.Seq.{length-take-le}
 use Rattle.word.specs.Coordinate.{shifted-coordinate}
-use Rattle.word.proofs.Filled.{Filled, filled-none, filled-lent, filled-all}
+use Rattle.ranges.proofs.Filled.{Filled, filled-none, filled-lent, filled-all}
 use borrow.Author.Needs.{needs}
 use Rattle.plan.proofs.fills.coordinates.Statement.{statement}
 use Rattle.plan.proofs.fills.coordinates.Tie as tie

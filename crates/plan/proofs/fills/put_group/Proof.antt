@@ -8,8 +8,8 @@ use lib.Bits.{bitXor}
 use lib.ListN.{getD}
 use Rattle.digits.specs.Digits.{plus}
 use Rattle.digits.proofs.Two.{plus-two}
-use Rattle.net.specs.Run.{range}
-use Rattle.word.proofs.Filled.{Filled, filled-none, filled-more, filled-all}
+use Rattle.ranges.specs.Range.{range}
+use Rattle.ranges.proofs.Filled.{Filled, filled-none, filled-more, filled-all}
 use Rattle.plan.proofs.fills.put_group.Statement.{statement}
 use Rattle.plan.proofs.fills.put_group.Tie as tie
 

@@ -6,7 +6,7 @@ use native.Mathlib.Omega.{arith}
 use borrow.Author.Needs.{needs}
 use borrow.Author.Tests.{lt-ltb, le-ltb}
 use lib.Dec.{ltb}
-use Rattle.linear.proofs.Cases.{lt-or-ge}
+use Rattle.ranges.proofs.Order.{lt-or-ge}
 use Rattle.plan.specs.Range.{last-index, past-last}
 use Rattle.plan.proofs.indexes.past_last.Statement.{statement}
 use Rattle.plan.proofs.indexes.past_last.Tie as tie

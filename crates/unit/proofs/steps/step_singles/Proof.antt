@@ -2,7 +2,7 @@
 use mathlib.Core.Path.{ap, _∙_}
 use Prim.Native.Nat.{ℕ}
 use borrow.Author.Needs.{needs}
-use Rattle.net.specs.Walk.{Walk, visited, Stepped}
+use Rattle.ranges.specs.Walk.{Walk, visited, Stepped}
 use Rattle.plan.specs.declared.walks.Step.the-variants as given
 use Rattle.plan.specs.Pair.{sequence}
 use Rattle.plan.specs.Walk.{of-walk}

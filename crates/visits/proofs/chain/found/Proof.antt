@@ -8,8 +8,8 @@ use denote.Ref.{now}
 use borrow.Author.Needs.{needs}
 use borrow.Author.Tests.{not-true, not-false}
 use Rattle.region_file.specs.declared.fields.Record.{Record}
-use Rattle.visits.specs.declared.place.Place.{Place}
-use Rattle.visits.specs.Place.{from, to-come, ended}
+use Rattle.visits.specs.declared.file_walks.FileWalk.{FileWalk}
+use Rattle.visits.specs.FileWalk.{from, to-come, ended}
 use Rattle.visits.specs.Stepping.{Found}
 use Rattle.visits.proofs.Coming.{from-over, from-stop, from-empty, start-of, start-comes, ended-comes}
 use Rattle.visits.proofs.chain.found.Statement.{statement}
@@ -30,8 +30,8 @@ listable-requires c κs = search needs
 ended-requires : tie.Need-ended-requires Inv-loop μ-loop
 ended-requires c κs = search needs
 
--- a place that has ended, where nothing is to come
-none : (file : List ℕ) (start links : ℕ) (p : Place) → p ≡ ended → from file links start ≡ [] → Found file start links p
+-- a walk that has ended, where nothing is to come
+none : (file : List ℕ) (start links : ℕ) (p : FileWalk) → p ≡ ended → from file links start ≡ [] → Found file start links p
 none file start links p e h =
     let c = ap (to-come file) e ∙ ended-comes file in
     record { same = c ∙ sym h; ready = inr c }

@@ -7,7 +7,7 @@ use native.Mathlib.Omega.{arith}
 use borrow.Author.Needs.{needs}
 use Rattle.digits.specs.Digits.{number, reversed}
 use Rattle.digits.proofs.Two.{one-lt-two}
-use Rattle.net.specs.Run.{range}
+use Rattle.ranges.specs.Range.{range}
 use Rattle.word.proofs.Table.{Split, split-none, table-lt, split-more, sum-lt}
 use Rattle.word.proofs.reversal.reversed.Statement.{statement}
 use Rattle.word.proofs.reversal.reversed.Tie as tie

@@ -4,7 +4,7 @@ use native.Mathlib.Omega.{arith}
 use Rattle.digits.proofs.Two.{one-lt-two}
 use Rattle.net.specs.Standard.{identity-column}
 use Rattle.net.proofs.Columns.{identity-step}
-use Rattle.word.proofs.Filled.{Running, running-none, running-more, filled-all}
+use Rattle.ranges.proofs.Filled.{Running, running-none, running-more, filled-all}
 use Rattle.word.proofs.standard.identity_columns.Statement.{statement}
 use Rattle.word.proofs.standard.identity_columns.Tie as tie
 

@@ -7,7 +7,7 @@ use Rattle.digits.specs.Digits.{number}
 use Rattle.digits.proofs.Two.{one-lt-two, plus-two}
 use Rattle.net.specs.Standard.{binomial, pascal-column}
 use Rattle.net.proofs.Columns.{pascal-step}
-use Rattle.word.proofs.Filled.{Running, running-none, running-more, filled-all}
+use Rattle.ranges.proofs.Filled.{Running, running-none, running-more, filled-all}
 use Rattle.word.proofs.standard.pascal_columns.Statement.{statement}
 use Rattle.word.proofs.standard.pascal_columns.Tie as tie
 

@@ -5,9 +5,9 @@ use mathlib.Core.List.{List, _++_, append-nil}
 use Prim.Native.Nat.{ℕ}
 use denote.Ref.{now}
 use Rattle.refusal.specs.Refusal.{number}
-use Rattle.visits.specs.declared.place.Visit.{Visit}
-use Rattle.visits.specs.Place.{of-opened}
-use Rattle.visits.specs.Place.{to-come as visits-to-come}
+use Rattle.visits.specs.declared.file_walks.FileVisit.{FileVisit}
+use Rattle.visits.specs.FileWalk.{of-opened}
+use Rattle.visits.specs.FileWalk.{to-come as visits-to-come}
 use Rattle.visits.proofs.Coming.{ended-comes}
 use Rattle.listing.specs.Listing.{refused-text, lines, report, listing}
 use Rattle.listing.specs.Cursor.{to-come}
@@ -42,7 +42,7 @@ unfolding to-come listing
 returns-2 c =
     let file = now (c .before .before .before .before .before .before .before .args .file) in
     let why = c .before .before .before .opened2 .given .0 .0 in
-    ap₂ (λ (n : ℕ) (vs : List Visit). refused-text n ++ lines vs) (c .before .number .ensures)
+    ap₂ (λ (n : ℕ) (vs : List FileVisit). refused-text n ++ lines vs) (c .before .number .ensures)
     (ap (visits-to-come file) (c .ended .ensures) ∙ ended-comes file)
     ∙ ap (λ (t : List ℕ). refused-text (number why) ++ t) lines-none
     ∙ append-nil (refused-text (number why))

@@ -2,7 +2,7 @@
 use native.Mathlib.Omega.{arith}
 use borrow.Author.Tests.{eq-eqb, ne-eqb, le-ltb}
 use borrow.Author.Needs.{needs}
-use Rattle.net.specs.Walk.{step}
+use Rattle.ranges.specs.Walk.{step}
 use Rattle.plan.specs.Pair.{sequence}
 use Rattle.plan.specs.Range.{last-index}
 use Rattle.plan.proofs.Laws.{tells}

@@ -1,0 +1,10 @@
+pub mod Order
+pub mod Below
+pub mod Search
+pub mod Range
+pub mod Count
+pub mod Filled
+pub mod Skip
+pub mod Pigeon
+pub mod Walk
+pub mod Theorem

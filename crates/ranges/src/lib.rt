@@ -1,0 +1,1 @@
+// Ranges of numbers: definitions in specs/, laws in proofs/. There is no code.

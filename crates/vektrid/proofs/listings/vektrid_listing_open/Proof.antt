@@ -1,0 +1,20 @@
+-- `listings::vektrid_listing_open` meets its contract.
+-- Assumes nothing.
+use mathlib.Core.Path.{ap, _∙_}
+use denote.Ref.{now}
+use Rattle.listing.specs.Cursor.{to-come}
+use borrow.Author.Needs.{needs}
+use Rattle.vektrid.proofs.listings.vektrid_listing_open.Statement.{statement}
+use Rattle.vektrid.proofs.listings.vektrid_listing_open.Tie as tie
+
+open-requires : tie.Need-open-requires
+open-requires c κs = search needs
+
+words-of-cursor-requires : tie.Need-words-of-cursor-requires
+words-of-cursor-requires c κs = search needs
+
+returns : tie.Need-returns
+returns c = ap (to-come (now (c .before .before .before .args .file))) (c .words-of-cursor .ensures) ∙ c .before .«open» .ensures
+
+pub vektrid-listing-open-spec : {M : Type 1} → statement M
+vektrid-listing-open-spec = tie.close (tie.spec open-requires words-of-cursor-requires returns)

@@ -1,0 +1,41 @@
+-- `walks::vektrid_walk_open` meets its contract.
+-- Assumes nothing.
+use mathlib.Core.Path.{sym, ap, _∙_}
+use Rattle.plan.specs.Walk.{of-opened}
+use Rattle.vektrid.proofs.Outcomes.{refused-answer, refused-leaves, accepted-answer, accepted-hands}
+use borrow.Author.Needs.{needs}
+use Rattle.vektrid.proofs.walks.vektrid_walk_open.Statement.{statement}
+use Rattle.vektrid.proofs.walks.vektrid_walk_open.Tie as tie
+
+open-requires : tie.Need-open-requires
+open-requires c κs = search needs
+
+enum-known-opened : tie.Need-enum-known-opened
+enum-known-opened c = search needs
+
+number-requires : tie.Need-number-requires
+number-requires c κs = search needs
+
+enum-known-opened-2 : tie.Need-enum-known-opened-2
+enum-known-opened-2 c = search needs
+
+returns : tie.Need-returns
+returns c =
+    let e = sym (c .before .before .before .before .«open» .ensures) ∙ ap of-opened (c .before .before .opened .given .1) in
+    (c .number .ensures ∙ refused-answer e, (refused-leaves e _ _, refused-leaves e _ _))
+
+returns-2 : tie.Need-returns-2
+returns-2 c =
+    let e = sym (c .before .before .before .«open» .ensures) ∙ ap of-opened (c .before .opened2 .given .1) in
+    (accepted-answer e, (accepted-hands e (λ w. w .next) _, accepted-hands e (λ w. w .left) _))
+
+pub vektrid-walk-open-spec : {M : Type 1} → statement M
+vektrid-walk-open-spec =
+    tie.close
+    (tie.spec
+    open-requires
+    enum-known-opened
+    number-requires
+    enum-known-opened-2
+    returns
+    returns-2)

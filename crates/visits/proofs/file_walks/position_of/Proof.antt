@@ -1,0 +1,24 @@
+-- `file_walks::position_of` meets its contract.
+-- Assumes nothing.
+use mathlib.Core.Path.{ap, _∙_}
+use Prim.Native.Nat.{ℕ}
+use Rattle.stage.specs.Region.{place-outcome}
+use Rattle.visits.specs.Visits.{position-of}
+use borrow.Author.Needs.{needs}
+use Rattle.visits.proofs.file_walks.position_of.Statement.{statement}
+use Rattle.visits.proofs.file_walks.position_of.Tie as tie
+
+standard-point-requires : tie.Need-standard-point-requires
+standard-point-requires c κs = search needs
+
+position-requires : tie.Need-position-requires
+position-requires c κs = search needs
+
+returns : tie.Need-returns
+unfolding position-of
+returns c =
+    let r = c .before .before .before .args .planned in
+    c .position .ensures ∙ ap (λ (p : ℕ × ℕ). place-outcome (r .region) (p .0) (p .1)) (c .before .standard-point .ensures)
+
+pub position-of-spec : {M : Type 1} → statement M
+position-of-spec = tie.close (tie.spec standard-point-requires position-requires returns)
