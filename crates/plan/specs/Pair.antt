@@ -7,7 +7,7 @@ use lib.ListN.{length, take, drop, replicate}
 use Rattle.net.specs.Generators.{Generators}
 use Rattle.net.specs.Sequence.{Sequence}
 use Rattle.net.specs.Finish.{Finish, digital, shift}
-use Rattle.word.specs.Standard.{standard-matrices}
+use Rattle.word.specs.Matrices.{standard-matrices}
 use Rattle.refusal.specs.Outcome.{Outcome, accepted, Test, first, granted}
 use Rattle.plan.specs.declared.pair.Plan.{Plan}
 use Rattle.plan.specs.declared.pair.Shift.{Shift}

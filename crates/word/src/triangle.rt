@@ -2,7 +2,7 @@
 ghost use mathlib.Core.Path.{_≡_};
 ghost use Rattle.digits.specs.Digits.{reversed};
 ghost use Rattle.net.specs.Generators.{product};
-ghost use Rattle.word.specs.Standard.{standard-matrices};
+ghost use Rattle.word.specs.Matrices.{standard-matrices};
 
 // The shift widths of the five steps, and the bits that each step moves.
 const WIDTHS: [u32; 5] = [16, 8, 4, 2, 1];

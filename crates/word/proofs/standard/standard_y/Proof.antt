@@ -1,11 +1,10 @@
--- `standard_y` meets its contract: `pascal` reverses the reversed index again.
-use mathlib.Core.Path.{sym, ap, _∙_}
-use Prim.Native.Nat.{ℕ}
+-- `standard_y`: `pascal` reverses the reversed index again.
+use mathlib.Core.Path.{ap, _∙_}
 use borrow.Author.Needs.{needs}
 use mir.Syntax.{w32}
 use mir.Val.{Fits}
-use Rattle.digits.specs.Digits.{reversed, plus}
-use Rattle.digits.proofs.Two.{one-lt-two, plus-two}
+use Rattle.digits.specs.Digits.{reversed}
+use Rattle.digits.proofs.Two.{one-lt-two}
 use Rattle.digits.proofs.Reversed.{reversed-twice}
 use Rattle.net.specs.Generators.{product}
 use Rattle.net.specs.Standard.{standard}
@@ -22,9 +21,8 @@ returns : tie.Need-returns
 returns c =
     let a = c .before .before .args in
     let index : Fits w32 (a .index) = search needs in
-    sym (plus-two (c .pascal .result) (a .shift))
-    ∙ ap (λ (x : ℕ). plus 2 x (a .shift)) (c .pascal .ensures ∙ ap (product 2 (standard 2 32 32 .Y))
-    (ap (reversed 2 32) (c .before .reversed .ensures) ∙ reversed-twice one-lt-two 32 (a .index) (index .fits)))
+    c .pascal .ensures ∙ ap (product 2 (standard 2 32 32 .Y))
+    (ap (reversed 2 32) (c .before .reversed .ensures) ∙ reversed-twice one-lt-two 32 (a .index) (index .fits))
 
 pub standard-y-spec : {M : Type 1} → statement M
 standard-y-spec = tie.close (tie.spec reversed-requires pascal-requires returns)

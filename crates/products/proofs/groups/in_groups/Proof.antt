@@ -5,12 +5,12 @@ use native.Mathlib.Omega.{arith}
 use borrow.Author.Needs.{needs}
 use lib.ListN.{length, drop, length-drop}
 use lib.Seq.{length-take-le}
-use Rattle.plan.proofs.Groups.{Along, along-none, along-all, along-group, group-next}
-use Rattle.plan.proofs.fills.in_groups.Statement.{statement}
-use Rattle.plan.proofs.fills.in_groups.Tie as tie
+use Rattle.products.proofs.Consecutive.{Along, along-none, along-all, along-group, group-next}
+use Rattle.products.proofs.groups.in_groups.Statement.{statement}
+use Rattle.products.proofs.groups.in_groups.Tie as tie
 
 abbrev Inv-loop : tie.InvT-loop
-Inv-loop start out₀ axis low word₀ k₀ out word k = Along (axis .columns) (axis .shift) start k out₀ out word × (k % 64 ≡ 0)
+Inv-loop start out₀ axis low word₀ k₀ out word k = Along (axis .columns) (axis .added) start k out₀ out word × (k % 64 ≡ 0)
 
 abbrev μ-loop : tie.MeasureT-loop
 μ-loop start out₀ axis low word₀ k₀ out word k = length out₀ - k
@@ -18,11 +18,11 @@ abbrev μ-loop : tie.MeasureT-loop
 first-group-requires : tie.Need-first-group-requires Inv-loop μ-loop
 first-group-requires c κs = c .before .pre .0 .0
 
-coordinate-requires : tie.Need-coordinate-requires Inv-loop μ-loop
-coordinate-requires c κs = tt
+offset-product-requires : tie.Need-offset-product-requires Inv-loop μ-loop
+offset-product-requires c κs = tt
 
 loop-holds : tie.Need-loop-holds Inv-loop μ-loop
-loop-holds c = (along-none (c .coordinate .ensures), omega arith)
+loop-holds c = (along-none (c .offset-product .ensures), omega arith)
 
 add-put-group : tie.Need-add-put-group Inv-loop μ-loop
 add-put-group c = omega arith
@@ -49,8 +49,7 @@ put-group-requires c κs =
       c .before .loop-test .taken,
       l .inv .0 .filled .long,
       l .inv .1,
-      c .before .before .before .before
-          .before .before .before .pre .1 .1,
+      c .before .before .before .before .before .before .pre .1 .1,
     )) ∙ omega arith
 
 add-k : tie.Need-add-k Inv-loop μ-loop
@@ -85,11 +84,11 @@ loop-less c = omega (
 loop-again : tie.Need-loop-again Inv-loop μ-loop
 loop-again c =
     let l = c .before .before .before .before .before .before .before .before .loop in
-    let a = c .before .before .before .before .before .before .before .before .before .before .before .before .before .args in
-    let p = c .before .before .before .before .before .before .before .before .before .before .before .before .before .pre in
+    let a = c .before .before .before .before .before .before .before .before .before .before .before .before .args in
+    let p = c .before .before .before .before .before .before .before .before .before .before .before .before .pre in
     let here : l .k < length (a .out .now) = omega
     (arith, c .before .before .before .before .before .before .before .loop-test .taken, l .inv .0 .filled .long) in
-    let low = c .before .before .before .before .before .before .before .before .before .before .before .first-group in (
+    let low = c .before .before .before .before .before .before .before .before .before .before .first-group in (
       record {
         within = omega (arith, here, l .inv .1, p .1 .1);
         filled = along-group (l .inv .0) (low .result) (low .ensures) (p .1 .0) (l .inv .1) here (l .k + 64 - l .k)
@@ -112,10 +111,10 @@ loop-less-2 c = omega (
 loop-again-2 : tie.Need-loop-again-2 Inv-loop μ-loop
 loop-again-2 c =
     let l = c .before .before .before .before .before .before .loop in
-    let a = c .before .before .before .before .before .before .before .before .before .before .before .args in
-    let p = c .before .before .before .before .before .before .before .before .before .before .before .pre in
+    let a = c .before .before .before .before .before .before .before .before .before .before .args in
+    let p = c .before .before .before .before .before .before .before .before .before .before .pre in
     let here : l .k < length (a .out .now) = omega (arith, c .before .before .before .before .before .loop-test .taken, l .inv .0 .filled .long) in
-    let low = c .before .before .before .before .before .before .before .before .before .first-group in
+    let low = c .before .before .before .before .before .before .before .before .first-group in
     let fill = along-group (l .inv .0) (low .result) (low .ensures) (p .1 .0) (l .inv .1) here (l .k + 64 - l .k)
     (c .before .before .before .put-group .last .1 .1 .0)
     (omega arith) (c .before .before .before .put-group .ensures) (p .1 .1) in (
@@ -140,7 +139,7 @@ in-groups-spec =
     Inv-loop
     μ-loop
     first-group-requires
-    coordinate-requires
+    offset-product-requires
     loop-holds
     add-put-group
     mul-put-group

@@ -6,11 +6,11 @@ use native.Mathlib.Omega.{arith}
 use borrow.Rule.Slice.PartMut.{putMid}
 use lib.ListN.{length, take, drop, length-drop}
 use lib.Seq.{length-take-le}
-use Rattle.word.specs.Coordinate.{shifted-coordinate}
+use Rattle.products.specs.Products.{offset-product}
 use Rattle.ranges.proofs.Filled.{Filled, filled-none, filled-lent, filled-all}
 use borrow.Author.Needs.{needs}
-use Rattle.plan.proofs.fills.coordinates.Statement.{statement}
-use Rattle.plan.proofs.fills.coordinates.Tie as tie
+use Rattle.products.proofs.fills.in_parts.Statement.{statement}
+use Rattle.products.proofs.fills.in_parts.Tie as tie
 
 -- ---- the parts
 
@@ -28,7 +28,7 @@ abbrev grouped : tie.After-in-groups → List ℕ
 grouped c = let d = c .before .before .before .before .before in putMid (head d) (whole d - head d) (headed d) (c .in-groups .last .1 .1 .0)
 
 abbrev of-axis : tie.After-singly → ℕ → ℕ
-of-axis c = let a = c .before .before .before .before .before .args in shifted-coordinate (a .columns) (a .shift)
+of-axis c = let a = c .before .before .before .before .before .args in offset-product (a .columns) (a .added)
 
 head-filled : (c : tie.After-singly) → let a = c .before .before .before .before .before .args in
     Filled (of-axis c) (a .start) (head c) (a .out .now) (headed c)
@@ -155,8 +155,8 @@ returns-3 : tie.Need-returns-3
 returns-3 c = filled-all (head-filled (c .before .before .before))
     (omega (arith, c .if1 .left, c .before .before .before .before .before .ahead .ensures .0))
 
-pub coordinates-spec : {M : Type 1} → statement M
-coordinates-spec =
+pub in-parts-spec : {M : Type 1} → statement M
+in-parts-spec =
     tie.close
     (tie.spec
     prefixes-requires

@@ -1,7 +1,7 @@
 -- `plan::fills::first_group` meets its contract: the words from index 0 on, with no shift. Assumes nothing.
 use borrow.Author.Needs.{needs}
-use Rattle.plan.proofs.fills.first_group.Statement.{statement}
-use Rattle.plan.proofs.fills.first_group.Tie as tie
+use Rattle.products.proofs.groups.first_group.Statement.{statement}
+use Rattle.products.proofs.groups.first_group.Tie as tie
 
 slice-aggregate-singly : tie.Need-slice-aggregate-singly
 slice-aggregate-singly c = search needs

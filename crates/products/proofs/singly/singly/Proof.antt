@@ -7,42 +7,41 @@ use lib.Count.{trailingZeros}
 use lib.ListN.{length, length-set}
 use mir.Syntax.{w32}
 use mir.Val.{Fits}
-use Rattle.word.specs.Coordinate.{shifted-coordinate}
-use Rattle.plan.proofs.Groups.{Along, along-none, along-one, along-all, next-word}
-use Rattle.plan.proofs.fills.singly.Statement.{statement}
-use Rattle.plan.proofs.fills.singly.Tie as tie
+use Rattle.products.specs.Products.{offset-product}
+use Rattle.products.proofs.Consecutive.{Along, along-none, along-one, along-all, next-word}
+use Rattle.products.proofs.singly.singly.Statement.{statement}
+use Rattle.products.proofs.singly.singly.Tie as tie
 
 abbrev Inv-loop : tie.InvT-loop
-Inv-loop start out₀ axis word₀ k₀ out word k = Along (axis .columns) (axis .shift) start k out₀ out word
+Inv-loop start out₀ axis word₀ k₀ out word k = Along (axis .columns) (axis .added) start k out₀ out word
 
 abbrev μ-loop : tie.MeasureT-loop
 μ-loop start out₀ axis word₀ k₀ out word k = length out₀ - k
 
 -- the index as the loop has it
-following : (C : List ℕ) (s start k : ℕ) {w : ℕ} → w ≡ shifted-coordinate C s (start + k + 1) → w ≡ shifted-coordinate C s (start + (k + 1))
-following C s start k e = e ∙ ap (shifted-coordinate C s) (omega arith)
+following : (C : List ℕ) (s start k : ℕ) {w : ℕ} → w ≡ offset-product C s (start + k + 1) → w ≡ offset-product C s (start + (k + 1))
+following C s start k e = e ∙ ap (offset-product C s) (omega arith)
 
 -- where one more word is to come, its index is one
-room : (c : tie.Then1 Inv-loop μ-loop) → let at = c .before .before .before .before .before .before .args .start in
+room : (c : tie.Then1 Inv-loop μ-loop) → let at = c .before .before .before .before .before .args .start in
     let k = c .before .before .loop .k in Fits w32 (k + 1) × Fits w32 (at + (k + 1))
 room c =
     let l = c .before .before .loop in
-    let more : c .before .before .before .before .before .before .args .start + (l .k + 1) < 2 ^ 32 =
+    let more : c .before .before .before .before .before .args .start + (l .k + 1) < 2 ^ 32 =
     omega (
       arith,
       c .if1 .taken,
       length-set (l .out) (l .k) (l .word),
       l .inv .filled .long,
-      c .before .before .before .before .before .before
-          .pre .1,
+      c .before .before .before .before .before .pre .1,
     ) in
     (record { fits = omega (arith, more) }, record { fits = omega (arith, more) })
 
-coordinate-requires : tie.Need-coordinate-requires Inv-loop μ-loop
-coordinate-requires c κs = tt
+offset-product-requires : tie.Need-offset-product-requires Inv-loop μ-loop
+offset-product-requires c κs = tt
 
 loop-holds : tie.Need-loop-holds Inv-loop μ-loop
-loop-holds c = along-none (c .coordinate .ensures)
+loop-holds c = along-none (c .offset-product .ensures)
 
 mul-out : tie.Need-mul-out Inv-loop μ-loop
 mul-out c = omega arith
@@ -75,15 +74,15 @@ loop-less c = let here = c .before .before .before .loop-test .taken in let long
 loop-again : tie.Need-loop-again Inv-loop μ-loop
 loop-again c =
     let l = c .before .before .before .before .loop in
-    let a = c .before .before .before .before .before .before .before .before .args in
+    let a = c .before .before .before .before .before .before .before .args in
     let here : l .k < length (a .out .now) = omega (arith, c .before .before .before .loop-test .taken, l .inv .filled .long) in record {
       within = omega arith;
       filled = along-one (l .inv) here;
-      word-is = λ more. following (a .t1 .columns) (a .t1 .shift) (a .start) (l .k)
-          (next-word (a .t1 .columns) (a .t1 .shift) (a .t1 .sums) (c .before .before .before .before .before .before .before .before .pre .0)
+      word-is = λ more. following (a .t1 .columns) (a .t1 .added) (a .start) (l .k)
+          (next-word (a .t1 .columns) (a .t1 .added) (a .t1 .sums) (c .before .before .before .before .before .before .before .pre .0)
           (l .word) (a .start + l .k) (c .before .turned .result)
           (c .before .turned .ensures .0 ∙ ap (trailingZeros 32) (omega arith))
-          (omega (arith, c .before .before .before .before .before .before .before .before .pre .1)) (l .inv .word-is here));
+          (omega (arith, c .before .before .before .before .before .before .before .pre .1)) (l .inv .word-is here));
     }
 
 loop-less-2 : tie.Need-loop-less-2 Inv-loop μ-loop
@@ -92,7 +91,7 @@ loop-less-2 c = let here = c .before .loop-test .taken in let long = c .before .
 loop-again-2 : tie.Need-loop-again-2 Inv-loop μ-loop
 loop-again-2 c =
     let l = c .before .before .loop in
-    let a = c .before .before .before .before .before .before .args in
+    let a = c .before .before .before .before .before .args in
     let here : l .k < length (a .out .now) = omega (arith, c .before .loop-test .taken, l .inv .filled .long) in record {
       within = omega arith;
       filled = along-one (l .inv) here;
@@ -111,7 +110,7 @@ singly-spec =
     (tie.spec
     Inv-loop
     μ-loop
-    coordinate-requires
+    offset-product-requires
     loop-holds
     mul-out
     slice-write-out

@@ -1,10 +1,10 @@
 -- `plan::fills::turned` meets its contract: a number other than 0 has a lowest bit. Assumes nothing.
 use mathlib.Core.Path.{refl}
 use lib.Count.{trailing-le}
-use Rattle.plan.proofs.Groups.{turns-below}
+use Rattle.products.proofs.Consecutive.{turns-below}
 use native.Mathlib.Omega.{arith}
-use Rattle.plan.proofs.fills.turned.Statement.{statement}
-use Rattle.plan.proofs.fills.turned.Tie as tie
+use Rattle.products.proofs.singly.turned.Statement.{statement}
+use Rattle.products.proofs.singly.turned.Tie as tie
 
 cast-result : tie.Need-cast-result
 cast-result c = let l = trailing-le 32 (c .args .at) in record { fits = omega arith }

@@ -1,26 +1,25 @@
--- `coordinate` meets its contract: the sum and the product of the columns to come stay together what they were at the start.
-use mathlib.Core.Path.{_≡_, refl, sym, _∙_}
+-- `product`: the sum so far and the product of the columns to come add up to the product.
+use mathlib.Core.Path.{_≡_, sym, _∙_}
 use Prim.Native.Nat.{_-_, _≤_}
 use native.Mathlib.Omega.{arith}
 use borrow.Author.Needs.{needs}
 use lib.ListN.{drop}
 use Rattle.digits.specs.Digits.{plus}
-use Rattle.digits.proofs.Arithmetic.{plus-comm}
+use Rattle.digits.proofs.Arithmetic.{zero-plus}
 use Rattle.digits.proofs.Two.{one-lt-two}
 use Rattle.net.specs.Generators.{product}
 use Rattle.word.proofs.Turn.{times-bit-fits, sum-drop, sum-past}
-use Rattle.word.proofs.product.coordinate.Statement.{statement}
-use Rattle.word.proofs.product.coordinate.Tie as tie
+use Rattle.word.proofs.matrix.product.Statement.{statement}
+use Rattle.word.proofs.matrix.product.Tie as tie
 
 abbrev Inv-loop : tie.InvT-loop
-Inv-loop index shift columns sum₀ rest₀ c₀ sum rest c =
-    (c ≤ 32) × (plus 2 sum (product 2 (drop c columns) rest) ≡ plus 2 shift (product 2 columns index))
+Inv-loop index columns sum₀ rest₀ c₀ sum rest c = (c ≤ 32) × (plus 2 sum (product 2 (drop c columns) rest) ≡ product 2 columns index)
 
 abbrev μ-loop : tie.MeasureT-loop
-μ-loop index shift columns sum₀ rest₀ c₀ sum rest c = 32 - c
+μ-loop index columns sum₀ rest₀ c₀ sum rest c = 32 - c
 
 loop-holds : tie.Need-loop-holds Inv-loop μ-loop
-loop-holds c = (omega arith, refl)
+loop-holds c = (omega arith, zero-plus one-lt-two _)
 
 mul-sum : tie.Need-mul-sum Inv-loop μ-loop
 mul-sum c = omega arith
@@ -47,7 +46,7 @@ returns : tie.Need-returns Inv-loop μ-loop
 returns c =
     let a = c .before .before .args in
     let l = c .before .loop in
-    sym (sum-past (a .t1) (l .c) (l .rest) (l .sum) (omega arith)) ∙ l .inv .1 ∙ plus-comm one-lt-two (a .shift) (product 2 (a .t1) (a .index))
+    sym (sum-past (a .t1) (l .c) (l .rest) (l .sum) (omega arith)) ∙ l .inv .1
 
-pub coordinate-spec : {M : Type 1} → statement M
-coordinate-spec = tie.close (tie.spec Inv-loop μ-loop loop-holds mul-sum array-read-sum mul-sum-2 add-c loop-less loop-again returns)
+pub product-spec : {M : Type 1} → statement M
+product-spec = tie.close (tie.spec Inv-loop μ-loop loop-holds mul-sum array-read-sum mul-sum-2 add-c loop-less loop-again returns)

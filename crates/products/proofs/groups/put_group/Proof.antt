@@ -10,8 +10,8 @@ use Rattle.digits.specs.Digits.{plus}
 use Rattle.digits.proofs.Two.{plus-two}
 use Rattle.ranges.specs.Range.{range}
 use Rattle.ranges.proofs.Filled.{Filled, filled-none, filled-more, filled-all}
-use Rattle.plan.proofs.fills.put_group.Statement.{statement}
-use Rattle.plan.proofs.fills.put_group.Tie as tie
+use Rattle.products.proofs.groups.put_group.Statement.{statement}
+use Rattle.products.proofs.groups.put_group.Tie as tie
 
 abbrev put : ℕ → List ℕ → ℕ → ℕ
 put word low i = plus 2 word (getD low i 0)

@@ -1,4 +1,4 @@
--- `plan::indexes::past_last` meets its contract: the sum is compared without being made. Assumes nothing.
+-- `goes_past`: count is above what is left from start on exactly where the sum is above the number of indexes.
 use mathlib.Core.Path.{_≡_, sym, _∙_}
 use mathlib.Core.Logic.{_⊎_, inl, inr}
 use Prim.Native.Nat.{ℕ, _+_, _-_, _^_, _≤_, _<_}
@@ -7,14 +7,14 @@ use borrow.Author.Needs.{needs}
 use borrow.Author.Tests.{lt-ltb, le-ltb}
 use lib.Dec.{ltb}
 use Rattle.ranges.proofs.Order.{lt-or-ge}
-use Rattle.plan.specs.Range.{last-index, past-last}
-use Rattle.plan.proofs.indexes.past_last.Statement.{statement}
-use Rattle.plan.proofs.indexes.past_last.Tie as tie
+use Rattle.word.specs.Index.{index-count, last-index, goes-past}
+use Rattle.word.proofs.indexes.goes_past.Statement.{statement}
+use Rattle.word.proofs.indexes.goes_past.Tie as tie
 
-same-test : (start count : ℕ) → start ≤ last-index → ltb (last-index - start + 1) count ≡ past-last start count .holds
+same-test : (start count : ℕ) → start ≤ last-index → ltb (last-index - start + 1) count ≡ goes-past index-count start count
 same-test start count h = go (lt-or-ge (2 ^ 32) (start + count))
   where
-    go : (2 ^ 32 < start + count) ⊎ (start + count ≤ 2 ^ 32) → ltb (last-index - start + 1) count ≡ past-last start count .holds
+    go : (2 ^ 32 < start + count) ⊎ (start + count ≤ 2 ^ 32) → ltb (last-index - start + 1) count ≡ goes-past index-count start count
     go (inl past) = lt-ltb (last-index - start + 1) count (omega arith) ∙ sym (lt-ltb (2 ^ 32) (start + count) past)
     go (inr within) = le-ltb (last-index - start + 1) count (omega arith) ∙ sym (le-ltb (2 ^ 32) (start + count) within)
 
@@ -30,5 +30,5 @@ add-result c = search needs
 returns : tie.Need-returns
 returns c = same-test (c .args .start) (c .args .count) (omega arith)
 
-pub past-last-spec : {M : Type 1} → statement M
-past-last-spec = tie.close (tie.spec cast-last sub-result add-result returns)
+pub goes-past-spec : {M : Type 1} → statement M
+goes-past-spec = tie.close (tie.spec cast-last sub-result add-result returns)
