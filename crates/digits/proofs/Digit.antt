@@ -7,7 +7,7 @@ use native.Mathlib.Nat.{div-add-mod', div-lt-iff-lt-mul, div-lt-self}
 use native.Mathlib.Omega.{arith}
 use lib.Arith.{digits-div, digits-mod, digits-lt, mod-mul}
 use lib.Pow.{pow-add}
-use Rattle.digits.specs.Digits.{digit, number, digitwise}
+use Rattle.digits.specs.Digits.{digit, from-digits, digitwise}
 
 module _ {b : ℕ} (big : 1 < b) where
   pos : 0 < b
@@ -144,17 +144,17 @@ module _ {b : ℕ} (big : 1 < b) where
 
   -- ---- a number by its digits
 
-  pub digit-number : (w k : ℕ) (d : ℕ → ℕ) → k < w → digit b k (number b w d) ≡ d k % b
-  unfolding number
-  digit-number zero k d h = absurd (omega arith)
-  digit-number (suc w) zero d h = digit-cons-low (number b w (λ k. d (suc k))) (d 0 % b) (mod-lt (d 0) pos)
-  digit-number (suc w) (suc k) d h =
-      digit-cons-suc k (number b w (λ k. d (suc k))) (d 0 % b) (mod-lt (d 0) pos) ∙ digit-number w k (λ k. d (suc k)) (omega arith)
+  pub digit-from-digits : (w k : ℕ) (d : ℕ → ℕ) → k < w → digit b k (from-digits b w d) ≡ d k % b
+  unfolding from-digits
+  digit-from-digits zero k d h = absurd (omega arith)
+  digit-from-digits (suc w) zero d h = digit-cons-low (from-digits b w (λ k. d (suc k))) (d 0 % b) (mod-lt (d 0) pos)
+  digit-from-digits (suc w) (suc k) d h =
+      digit-cons-suc k (from-digits b w (λ k. d (suc k))) (d 0 % b) (mod-lt (d 0) pos) ∙ digit-from-digits w k (λ k. d (suc k)) (omega arith)
 
-  pub number-lt : (w : ℕ) (d : ℕ → ℕ) → number b w d < b ^ w
-  unfolding number
-  number-lt zero d = pow-pos 0
-  number-lt (suc w) d = rw pow-suc (digits-lt (number-lt w (λ k. d (suc k))) (mod-lt (d 0) pos))
+  pub from-digits-lt : (w : ℕ) (d : ℕ → ℕ) → from-digits b w d < b ^ w
+  unfolding from-digits
+  from-digits-lt zero d = pow-pos 0
+  from-digits-lt (suc w) d = rw pow-suc (digits-lt (from-digits-lt w (λ k. d (suc k))) (mod-lt (d 0) pos))
 
   -- ---- digit by digit
 

@@ -8,17 +8,17 @@ use lib.Arith.{digits-div, digits-lt}
 use lib.Pow.{pow-add}
 use Rattle.digits.specs.Digits.{digit, reversed, plus}
 use Rattle.digits.proofs.Digit.{pow-pos, digit-lt, digit-low, digit-zero, digit-suc, digit-cons-low, digit-cons-suc}
-use Rattle.digits.proofs.Digit.{digit-mod, digit-number, number-lt, ext-below, digit-join-low, digit-join-high}
+use Rattle.digits.proofs.Digit.{digit-mod, digit-from-digits, from-digits-lt, ext-below, digit-join-low, digit-join-high}
 use Rattle.digits.proofs.Arithmetic.{digit-plus, plus-lt}
 
 module _ {b : ℕ} (big : 1 < b) where
   pub reversed-lt : (n i : ℕ) → reversed b n i < b ^ n
   unfolding reversed
-  reversed-lt n i = number-lt big n _
+  reversed-lt n i = from-digits-lt big n _
 
   pub digit-reversed : (n i k : ℕ) → k < n → digit b k (reversed b n i) ≡ digit b (n - suc k) i
   unfolding reversed
-  digit-reversed n i k h = digit-number big n k (λ k. digit b (n - suc k) i) h ∙ mod-mod (i / b ^ (n - suc k)) b
+  digit-reversed n i k h = digit-from-digits big n k (λ k. digit b (n - suc k) i) h ∙ mod-mod (i / b ^ (n - suc k)) b
 
   -- a number of n digits is the reversal of i if each of its digits is
   is-reversed : (n i r : ℕ) → r < b ^ n → ((k : ℕ) → k < n → digit b k r ≡ digit b (n - suc k) i) → reversed b n i ≡ r

@@ -6,13 +6,13 @@ abbrev pub digit : ℕ → ℕ → ℕ → ℕ
 digit b k n = n / b ^ k % b
 
 -- the number of w digits whose digit at place k is d k modulo b
-unfoldable pub number : ℕ → ℕ → (ℕ → ℕ) → ℕ
-number b zero d = 0
-number b (suc w) d = number b w (λ k. d (suc k)) * b + d 0 % b
+unfoldable pub from-digits : ℕ → ℕ → (ℕ → ℕ) → ℕ
+from-digits b zero d = 0
+from-digits b (suc w) d = from-digits b w (λ k. d (suc k)) * b + d 0 % b
 
 -- the n lowest digits of i in the opposite order (for i of n digits: its radical inverse times b ^ n)
 unfoldable pub reversed : ℕ → ℕ → ℕ → ℕ
-reversed b n i = number b n (λ k. digit b (n - suc k) i)
+reversed b n i = from-digits b n (λ k. digit b (n - suc k) i)
 
 -- The number whose digits are f of the digits of m and of n, modulo b, where f 0 0 is 0 modulo b. The fuel w is enough where it is
 -- not below m and n; the recursion stops as soon as both are 0, so it computes.

@@ -3,14 +3,14 @@
 use mathlib.Core.Path.{_≡_}
 use Prim.Native.Nat.{ℕ, suc, _+_, _-_, _*_, _/_, _%_, _^_, _≤_, _<_}
 use lib.Bits.{bitXor}
-use Rattle.digits.specs.Digits.{digit, number, reversed, plus, minus, times}
+use Rattle.digits.specs.Digits.{digit, from-digits, reversed, plus, minus, times}
 
 -- a number is determined by its digits, one below b ^ w by the lowest w; and digits make a number
 pub record Determined (b : ℕ) : Type 0 where
   pub by-digits : (m n : ℕ) → ((k : ℕ) → digit b k m ≡ digit b k n) → m ≡ n
   pub by-lowest : (w m n : ℕ) → m < b ^ w → n < b ^ w → ((k : ℕ) → k < w → digit b k m ≡ digit b k n) → m ≡ n
-  pub number-digit : (w k : ℕ) (d : ℕ → ℕ) → k < w → digit b k (number b w d) ≡ d k % b
-  pub number-below : (w : ℕ) (d : ℕ → ℕ) → number b w d < b ^ w
+  pub from-digits-digit : (w k : ℕ) (d : ℕ → ℕ) → k < w → digit b k (from-digits b w d) ≡ d k % b
+  pub from-digits-below : (w : ℕ) (d : ℕ → ℕ) → from-digits b w d < b ^ w
 
 -- what the three operations do at each place; with `Determined` this says all of them
 pub record DigitByDigit (b : ℕ) : Type 0 where

@@ -7,7 +7,7 @@ use native.Mathlib.Omega.{arith}
 use Rattle.digits.proofs.Remainder.{mul-mod, mul-cong, add-cong}
 use Rattle.linear.specs.Prime.{Prime}
 use Rattle.ranges.specs.Skip.{skip}
-use Rattle.linear.specs.Matrix.{Matrix, sum, minor, det, image, put}
+use Rattle.linear.specs.Matrix.{Matrix, sum, minor, det, image, with-column}
 use Rattle.linear.specs.Solution.{Kernel, Trivial}
 use Rattle.ranges.proofs.Order.{eq-or-ne}
 use Rattle.ranges.proofs.Skip.{skip-lt}
@@ -56,17 +56,17 @@ module _ {p : ℕ} (big : 1 < p) where
   -- ---- the columns
 
   pub linear : (n k a b : ℕ) (A : Matrix) (x y : ℕ → ℕ) → k < n
-      → det p n (put A k (λ r. a * x r + b * y r)) ≡ (a * det p n (put A k x) + b * det p n (put A k y)) % p
+      → det p n (with-column A k (λ r. a * x r + b * y r)) ≡ (a * det p n (with-column A k x) + b * det p n (with-column A k y)) % p
   linear n k a b A x y h =
-      det-is n (put A k (λ r. a * x r + b * y r)) ∙ ap (λ (u : ℕ). u % p) (put-lin (p - 1) n k a b A x y h)
-      ∙ add-cong p (a * X) (a * det p n (put A k x)) (b * Y) (b * det p n (put A k y))
-      (rw (det-is n (put A k x)) (sym (mul-mod p a X))) (rw (det-is n (put A k y)) (sym (mul-mod p b Y)))
+      det-is n (with-column A k (λ r. a * x r + b * y r)) ∙ ap (λ (u : ℕ). u % p) (put-lin (p - 1) n k a b A x y h)
+      ∙ add-cong p (a * X) (a * det p n (with-column A k x)) (b * Y) (b * det p n (with-column A k y))
+      (rw (det-is n (with-column A k x)) (sym (mul-mod p a X))) (rw (det-is n (with-column A k y)) (sym (mul-mod p b Y)))
     where
       X : ℕ
-      X = expand (p - 1) n (put A k x)
+      X = expand (p - 1) n (with-column A k x)
 
       Y : ℕ
-      Y = expand (p - 1) n (put A k y)
+      Y = expand (p - 1) n (with-column A k y)
 
   pub equal-columns : (n i k : ℕ) (A : Matrix) → i < n → k < n → i ≢ k → ((r : ℕ) → r < n → A r i % p ≡ A r k % p) → det p n A ≡ 0
   equal-columns n i k A hi hk ne e =
@@ -74,17 +74,17 @@ module _ {p : ℕ} (big : 1 < p) where
       ∙ dvd→zero n B (equal (p - 1) n i k B hi hk ne (λ r. put-off A k (λ q. A q i) r i ne ∙ sym (put-at A k (λ q. A q i) r)))
     where
       B : Matrix
-      B = put A k (λ r. A r i)
+      B = with-column A k (λ r. A r i)
 
       entry : (r c : ℕ) → r < n → (c ≡ k) ⊎ (c ≢ k) → A r c % p ≡ B r c % p
       entry r c hr (inl q) = rw (q, put-at A k (λ z. A z i) r) (sym (e r hr))
       entry r c hr (inr q) = rw (put-off A k (λ z. A z i) r c q) refl
 
   pub swapped : (n k l : ℕ) (A : Matrix) (x y : ℕ → ℕ) → k < n → l < n → k ≢ l
-      → (det p n (put (put A k x) l y) + det p n (put (put A k y) l x)) % p ≡ 0
+      → (det p n (with-column (with-column A k x) l y) + det p n (with-column (with-column A k y) l x)) % p ≡ 0
   swapped n k l A x y hk hl ne =
-      rw (det-is n (put (put A k x) l y), det-is n (put (put A k y) l x))
-      (sym (add-mod (expand (p - 1) n (put (put A k x) l y)) (expand (p - 1) n (put (put A k y) l x)) p)
+      rw (det-is n (with-column (with-column A k x) l y), det-is n (with-column (with-column A k y) l x))
+      (sym (add-mod (expand (p - 1) n (with-column (with-column A k x) l y)) (expand (p - 1) n (with-column (with-column A k y) l x)) p)
       ∙ mod-eq-zero-of-dvd p (rw next at (swap (p - 1) n k l A x y hk hl ne)))
 
   -- ---- Cramer

@@ -8,11 +8,11 @@ use Rattle.digits.proofs.Digit.{pow-pos}
 use Rattle.linear.specs.Prime.{Prime}
 use Rattle.net.specs.Generators.{Generators}
 use Rattle.net.specs.Sequence.{Sequence, Finds, Apart, Least}
-use Rattle.net.specs.Finish.{plain, shifted}
+use Rattle.net.specs.Scrambling.{plain, shifted}
 use Rattle.net.specs.Shape.{Shape}
-use Rattle.net.specs.Elimination.{serial, interval, Choice, BasisEntry, solve, Outcome, kernel, basis, eliminate-shape, basis-index}
-use Rattle.net.specs.Answers.{Solved, Eliminated}
-use Rattle.net.proofs.Finish.{unshifted}
+use Rattle.net.specs.Elimination.{serial, interval, Choice, BasisEntry, solve, Eliminated, kernel, basis, eliminate-shape, basis-index}
+use Rattle.net.specs.Answers.{Solved, Decided}
+use Rattle.net.proofs.Scrambling.{unshifted}
 use Rattle.net.proofs.Interval.{interval-additive, interval-lt, interval-of-share, share-of-interval, interval-zero}
 use Rattle.net.proofs.Shape.{apart-iff}
 use Rattle.net.proofs.Net.{stratified}
@@ -45,7 +45,7 @@ module _ {G : Generators} {m a : ℕ} (shape : Shape G m a) (prime : Prime (G .b
           subst (λ (S : Sequence). Finds S m a k (basis-index G S fs m a k)) (unshifted G (prime .big)) (answers 0 0 positive positive k);
     }
 
-  pub eliminated : (C : Choice b R) → Eliminated G m a (eliminate-shape G C m a)
+  pub eliminated : (C : Choice b R) → Decided G m a (eliminate-shape G C m a)
   unfolding eliminate-shape
   eliminated C = read (eliminate-shape G C m a) (eliminate-sound prime (interval-additive shape) C small m)
     where
@@ -55,7 +55,7 @@ module _ {G : Generators} {m a : ℕ} (shape : Shape G m a) (prime : Prime (G .b
       origin : interval (plain G) m a 0 ≡ 0
       origin = interval-zero shape
 
-      read : (o : Outcome) → Sound b (interval (plain G) m a) m o → Eliminated G m a o
+      read : (o : Eliminated) → Sound b (interval (plain G) m a) m o → Decided G m a o
       read (kernel j) (below, s) =
           let least : Least (plain G) m a j = record {
             positive = s .positive;

@@ -12,7 +12,7 @@ use borrow.Author.Tests.{lt-ltb, le-ltb, eq-eqb, ne-eqb}
 use lib.Arith.{digits-div, digits-mod}
 use lib.Dec.{eqb}
 use Rattle.digits.specs.Digits.{digit, reversed, plus}
-use Rattle.digits.proofs.Digit.{pow-pos, pow-one, pow-lt, pow-div, digit-suc, digit-high, digit-zero, digit-number, number-lt}
+use Rattle.digits.proofs.Digit.{pow-pos, pow-one, pow-lt, pow-div, digit-suc, digit-high, digit-zero, digit-from-digits, from-digits-lt}
 use Rattle.digits.proofs.Digit.{ext-below, mod-pow-suc}
 use Rattle.digits.proofs.Arithmetic.{digit-plus, plus-lt, plus-split, times-pow}
 use Rattle.digits.proofs.Reversed.{reversed-lt, reversed-zero, reversed-more, reversed-suc, reversed-mod, reversed-twice}
@@ -100,11 +100,11 @@ module _ {b : ℕ} (big : 1 < b) (R : ℕ) where
 
   pub pascal-lt : (c : ℕ) → pascal-column b R c < b ^ R
   unfolding pascal-column
-  pascal-lt c = number-lt big R _
+  pascal-lt c = from-digits-lt big R _
 
   pascal-digit : (c k : ℕ) → k < R → digit b k (pascal-column b R c) ≡ binomial c (R - suc k) % b
   unfolding pascal-column
-  pascal-digit c k h = digit-number big R k (λ k. binomial c (R - suc k)) h
+  pascal-digit c k h = digit-from-digits big R k (λ k. binomial c (R - suc k)) h
 
   -- row r, column c: the binomial
   pub pascal-entry : (r c : ℕ) → r < R → digit b (R - suc r) (pascal-column b R c) ≡ binomial c r % b

@@ -4,10 +4,10 @@ use Prim.Native.Nat.{ℕ, suc, _+_, _-_, _*_, _^_, _≤_, _<_, min}
 use native.Mathlib.Omega.{arith}
 use lib.ListN.{take, drop}
 use Rattle.ranges.specs.Range.{range}
-use Rattle.ranges.specs.Walk.{told}
+use Rattle.ranges.specs.Walk.{visits-given}
 use Rattle.ranges.proofs.Range.{take-each, drop-each}
 use Rattle.ranges.proofs.Count.{count-map, count-one}
-use Rattle.ranges.proofs.Walk.{list-within, told-given}
+use Rattle.ranges.proofs.Walk.{list-within, visits-given-is}
 use Rattle.net.specs.Sequence.{Sequence, Finds, lies}
 use Rattle.net.specs.Run.{visit, visits, run, hits}
 use Rattle.net.specs.Steps.{Runs, WalkedRun}
@@ -39,7 +39,7 @@ runs S m k = record { one-hit = one-hit; part = part }
 
 pub walked-run : (S : Sequence) (m k last count n : ℕ) → k * S .b ^ m + count ≤ suc last → WalkedRun S m k last count n
 walked-run S m k last count n room = record {
-  list = ap (take size) (ap told (list-within (visit S) last first count n room) ∙ told-given (visit S) n first count)
+  list = ap (take size) (ap visits-given (list-within (visit S) last first count n room) ∙ visits-given-is (visit S) n first count)
       ∙ take-each (visit S) first (min n count) size ∙ ap (visits S first) turned ∙ sym (take-each (visit S) first size (min n count));
 }
   where

@@ -14,7 +14,7 @@ use Rattle.linear.proofs.Modulo.{det-mod}
 use Rattle.linear.proofs.Divisor.{prime-divisor, det-divisor}
 use Rattle.net.specs.Generators.{Generators, entry}
 use Rattle.net.specs.Sequence.{Alone}
-use Rattle.net.specs.Finish.{plain}
+use Rattle.net.specs.Scrambling.{plain}
 use Rattle.net.specs.Shape.{Shape, matrix, determinant}
 use Rattle.ranges.specs.Range.{range}
 use Rattle.net.specs.Standard.{binomial, identity-column, pascal-column, standard}

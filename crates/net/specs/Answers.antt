@@ -6,24 +6,24 @@ use Prim.Native.Nat.{ℕ, _^_, _≤_, _<_}
 use Rattle.ranges.specs.Unique.{Only}
 use Rattle.net.specs.Generators.{Generators}
 use Rattle.net.specs.Sequence.{VisitIn, Finds, Crowded, Least}
-use Rattle.net.specs.Finish.{Finish, plain, digital, shifted}
+use Rattle.net.specs.Scrambling.{Scrambling, plain, digital, shifted}
 use Rattle.net.specs.Shape.{determinant, Passes}
-use Rattle.net.specs.Check.{check, passed, refused, First, FirstZero}
+use Rattle.net.specs.Check.{check, passed, refused, FirstCrowded, FirstZero}
 use Rattle.net.specs.Query.{locate, found, no-net}
-use Rattle.net.specs.Elimination.{BasisEntry, Outcome, kernel, basis, basis-index}
+use Rattle.net.specs.Elimination.{BasisEntry, Eliminated, kernel, basis, basis-index}
 
 -- The check passes exactly what passes, and refuses exactly where a determinant of a size within the level is 0, exactly where an
 -- interval of such a size holds two plain visits. The shape that it names is the first in both readings, and j the least.
-pub record Checked (G : Generators) (M : ℕ) : Type 0 where
+pub record CheckDecides (G : Generators) (M : ℕ) : Type 0 where
   pub passed-iff : (check G M ≡ passed) ↔ Passes G M
   pub zero-iff : (check G M ≢ passed) ↔ ((m : ℕ) × (a : ℕ) × (0 < m) × (m ≤ M) × (a ≤ m) × (determinant G m a ≡ 0))
   pub crowded-iff : (check G M ≢ passed) ↔ ((m : ℕ) × (a : ℕ) × (m ≤ M) × (a ≤ m) × Crowded (plain G) m a)
-  pub refused-iff : (m a j : ℕ) → (check G M ≡ refused m a j) ↔ (First G M m a × Least (plain G) m a j)
+  pub refused-iff : (m a j : ℕ) → (check G M ≡ refused m a j) ↔ (FirstCrowded G M m a × Least (plain G) m a j)
   pub refused-zero-iff : (m a j : ℕ) → (check G M ≡ refused m a j) ↔ (FirstZero G M m a × Least (plain G) m a j)
 
 -- what a query's outcome means: found i exactly where the determinant is not 0 and i is the only index of the block in the interval; no
 -- net exactly where the determinant is 0, with the least j
-pub record Located (G : Generators) (F : Finish) (m a k c r : ℕ) : Type 0 where
+pub record Located (G : Generators) (F : Scrambling) (m a k c r : ℕ) : Type 0 where
   pub found-iff : (i : ℕ) → (locate G F m a k c r ≡ found i) ↔ ((determinant G m a ≢ 0) × Only (VisitIn (digital G F) m a k c r) i)
   pub no-net-iff : (j : ℕ) → (locate G F m a k c r ≡ no-net j) ↔ ((determinant G m a ≡ 0) × Least (plain G) m a j)
 
@@ -40,6 +40,6 @@ pub record Unsolved (G : Generators) (m a j : ℕ) : Type 0 where
   pub least : Least (plain G) m a j
 
 -- what an outcome of elimination means
-abbrev pub Eliminated : Generators → ℕ → ℕ → Outcome → Type 0
-Eliminated G m a (kernel j) = Unsolved G m a j
-Eliminated G m a (basis fs) = Solved G m a fs
+abbrev pub Decided : Generators → ℕ → ℕ → Eliminated → Type 0
+Decided G m a (kernel j) = Unsolved G m a j
+Decided G m a (basis fs) = Solved G m a fs

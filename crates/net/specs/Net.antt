@@ -7,7 +7,7 @@ use Rattle.digits.specs.Digits.{reversed, plus}
 use Rattle.ranges.specs.Unique.{Only}
 use Rattle.net.specs.Generators.{Generators, Valid, entry, product}
 use Rattle.net.specs.Sequence.{VisitIn, Finds, column-less, row-less, Apart, Alone}
-use Rattle.net.specs.Finish.{Finish, plain, digital, Lawful, shifted}
+use Rattle.net.specs.Scrambling.{Scrambling, plain, digital, Lawful, shifted}
 use Rattle.net.specs.Shape.{determinant, Passes}
 use Rattle.net.specs.Query.{visit-index}
 use Rattle.net.specs.Standard.{binomial, standard}
@@ -19,14 +19,14 @@ pub record Related (G : Generators) (s t m a k c r p : ℕ) : Type 0 where
   pub plain-visit : Only (VisitIn (plain G) m a 0 (column-less (shifted G s t) m a k c) (row-less (shifted G s t) m a k r)) p
   pub block-visit : Only (VisitIn (shifted G s t) m a k c r) (k * G .b ^ m + p)
 
--- each block visits each interval of the shape exactly once, under any lawful finish, and its visits are related to the plain run
+-- each block visits each interval of the shape exactly once, under any lawful scrambling, and its visits are related to the plain run
 pub record Stratified (G : Generators) (m a : ℕ) : Type 0 where
-  pub one-visit : (F : Finish) → Lawful (G .b) (G .R) F → (k : ℕ) → Finds (digital G F) m a k (visit-index (digital G F) m a k)
+  pub one-visit : (F : Scrambling) → Lawful (G .b) (G .R) F → (k : ℕ) → Finds (digital G F) m a k (visit-index (digital G F) m a k)
   pub relation : (s t : ℕ) → s < G .b ^ G .R → t < G .b ^ G .R → (k c r : ℕ) → c < G .b ^ a → r < G .b ^ (m - a)
       → (p : ℕ) × Related G s t m a k c r p
 
 -- the determinant of a shape is not 0 exactly where no interval holds two plain visits, exactly where index 0 is alone in its own,
--- exactly where the plain run visits each interval once, and exactly where every block does so under any lawful finish (`Stratified`)
+-- exactly where the plain run visits each interval once, and exactly where every block does so under any lawful scrambling (`Stratified`)
 pub record NetTest (G : Generators) (m a : ℕ) : Type 0 where
   pub apart-iff : (determinant G m a ≢ 0) ↔ Apart (plain G) m a
   pub alone-iff : (determinant G m a ≢ 0) ↔ Alone (plain G) m a
@@ -37,7 +37,7 @@ pub record NetTest (G : Generators) (m a : ℕ) : Type 0 where
 -- its run has one visit in each interval
 pub record Net (G : Generators) (M : ℕ) : Type 0 where
   pub stratified : (m a : ℕ) → m ≤ M → a ≤ m → Stratified G m a
-  pub one-hit : (F : Finish) → Lawful (G .b) (G .R) F → (m a k c r : ℕ) → m ≤ M → a ≤ m → c < G .b ^ a → r < G .b ^ (m - a)
+  pub one-hit : (F : Scrambling) → Lawful (G .b) (G .R) F → (m a k c r : ℕ) → m ≤ M → a ≤ m → c < G .b ^ a → r < G .b ^ (m - a)
       → hits (digital G F) m a c r (run (digital G F) m k) ≡ 1
 
 -- identity and Pascal's triangle modulo b, with n columns: the first from its rule by powers and as the reversal of the index, the

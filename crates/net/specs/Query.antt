@@ -2,7 +2,7 @@
 use Prim.Native.Nat.{ℕ, zero, suc, _+_, _*_, _^_}
 use Rattle.net.specs.Generators.{Generators}
 use Rattle.net.specs.Sequence.{Sequence, lies}
-use Rattle.net.specs.Finish.{Finish, plain, digital}
+use Rattle.net.specs.Scrambling.{Scrambling, plain, digital}
 use Rattle.net.specs.Shape.{determinant}
 use Rattle.ranges.specs.Search.{search}
 use Rattle.net.specs.Check.{least-index}
@@ -16,6 +16,6 @@ pub data Location : Type 0 where
   found : (i : ℕ) → Location
   no-net : (j : ℕ) → Location
 
-unfoldable pub locate : Generators → Finish → ℕ → ℕ → ℕ → ℕ → ℕ → Location
+unfoldable pub locate : Generators → Scrambling → ℕ → ℕ → ℕ → ℕ → ℕ → Location
 locate G F m a k c r =
     elim (determinant G m a) [ zero ↦ no-net (least-index (plain G) m a) | suc d ↦ found (visit-index (digital G F) m a k c r) ]

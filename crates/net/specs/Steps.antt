@@ -4,7 +4,7 @@ use Prim.Native.Nat.{ℕ, suc, _+_, _-_, _*_, _^_, _<_, min}
 use lib.ListN.{take, drop}
 use Rattle.net.specs.Sequence.{Sequence, Finds}
 use Rattle.net.specs.Run.{visit, visits, run, hits}
-use Rattle.ranges.specs.Walk.{Walk, answers, after, given, told}
+use Rattle.ranges.specs.Walk.{Walk, answers, after, given, visits-given}
 
 -- Where a block visits each interval once, its run has one visit in each. The n visits from index p of a block on, as far as they go
 -- into the block, are the run from there.
@@ -15,4 +15,4 @@ pub record Runs (S : Sequence) (m k : ℕ) : Type 0 where
 
 -- the visits that n steps give on a walk opened at the first index of block k, as far as they go into the block, are the run
 pub record WalkedRun (S : Sequence) (m k last count n : ℕ) : Type 0 where
-  pub list : take (S .b ^ m) (told (answers (visit S) last n (record { next = k * S .b ^ m; left = count }))) ≡ take (min n count) (run S m k)
+  pub list : take (S .b ^ m) (visits-given (answers (visit S) last n (record { next = k * S .b ^ m; left = count }))) ≡ take (min n count) (run S m k)

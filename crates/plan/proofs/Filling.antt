@@ -13,22 +13,22 @@ use Rattle.refusal.proofs.First.{first-none, first-refuses, first-passes, grant
 use Rattle.plan.specs.Range.{past-last}
 use Rattle.plan.specs.Fill.{fill-outcome, filled}
 
-module _ (start : ℕ) (xs ys : List ℕ) where
-  pub refused-lengths : length xs ≢ length ys → fill-outcome start xs ys ≡ refused 8 []
+module _ (n start : ℕ) (xs ys : List ℕ) where
+  pub refused-lengths : length xs ≢ length ys → fill-outcome n start xs ys ≡ refused 8 []
   refused-lengths ne = first-refuses (accepted tt) 8 _ (ap not (ne-eqb (length xs) (length ys) ne))
 
-  pub refused-range : length xs ≡ length ys → past-last start (length xs) .holds ≡ true → fill-outcome start xs ys ≡ refused 9 []
+  pub refused-range : length xs ≡ length ys → past-last n start (length xs) .holds ≡ true → fill-outcome n start xs ys ≡ refused 9 []
   refused-range e h =
       first-passes (accepted tt) 8 _ (ap not (eq-eqb (length xs) (length ys) e)) ∙ first-refuses (accepted tt) 9 [] h
 
-  pub accepts : length xs ≡ length ys → past-last start (length xs) .holds ≡ false → fill-outcome start xs ys ≡ accepted tt
+  pub accepts : length xs ≡ length ys → past-last n start (length xs) .holds ≡ false → fill-outcome n start xs ys ≡ accepted tt
   accepts e h =
       first-passes (accepted tt) 8 _ (ap not (eq-eqb (length xs) (length ys) e)) ∙ first-passes (accepted tt) 9 [] h ∙ first-none (accepted tt)
 
   module _ (S : Sequence) where
-    pub kept : {n : ℕ} {vs : List ℕ} → fill-outcome start xs ys ≡ refused n vs → filled S start xs ys ≡ record { x = xs; y = ys }
+    pub kept : {number : ℕ} {values : List ℕ} → fill-outcome n start xs ys ≡ refused number values → filled n S start xs ys ≡ record { x = xs; y = ys }
     kept e = granted-refused _ _ e
 
-    pub written : fill-outcome start xs ys ≡ accepted tt
-        → filled S start xs ys ≡ record { x = map (S .x) (range start (length xs)); y = map (S .y) (range start (length ys)) }
+    pub written : fill-outcome n start xs ys ≡ accepted tt
+        → filled n S start xs ys ≡ record { x = map (S .x) (range start (length xs)); y = map (S .y) (range start (length ys)) }
     written e = granted-accepted _ _ e

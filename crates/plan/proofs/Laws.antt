@@ -9,7 +9,7 @@ use Rattle.net.specs.Sequence.{Sequence, point}
 use Rattle.net.specs.Run.{Visit, visit}
 use Rattle.ranges.specs.Walk.{Walk, Stepped, visited}
 use Rattle.ranges.proofs.Below.{below-of}
-use Rattle.plan.specs.Pair.{pair}
+use Rattle.word.specs.Matrices.{pair}
 
 -- a point by its coordinates
 pub both : {x y u v : ℕ} → x ≡ u → y ≡ v → _≡_ {A = ℕ × ℕ} (x, y) (u, v)

@@ -2,5 +2,5 @@ pub mod Laws
 pub mod Level
 pub mod Loading
 pub mod Filling
-pub mod Groups
 pub mod Lists
+pub mod Theorem

@@ -2,23 +2,23 @@
 use mathlib.Core.Path.{_≡_, refl, sym, ap, _∙_}
 use mathlib.Core.Bool.{false, not}
 use mathlib.Core.List.{List, [], _∷_, map}
-use Prim.Native.Nat.{ℕ, zero, suc, _+_, _-_, _^_, _≤_, min}
+use Prim.Native.Nat.{ℕ, zero, suc, _+_, _≤_, min}
 use borrow.Author.Tests.{ltb-false, not-false, eqb-true}
 use lib.Dec.{eqb, ltb}
 use lib.ListN.{length}
 use Rattle.net.specs.Sequence.{Sequence}
 use Rattle.ranges.specs.Range.{range}
 use Rattle.net.specs.Run.{Visit, visit, visits}
-use Rattle.ranges.specs.Walk.{Walk, answers, given, told}
+use Rattle.ranges.specs.Walk.{Walk, answers, given, visits-given}
 use Rattle.ranges.specs.Theorem.{Walked}
 use Rattle.ranges.proofs.Walk as ranges
-use Rattle.ranges.proofs.Walk.{told-given, list-within}
+use Rattle.ranges.proofs.Walk.{visits-given-is, list-within}
 use Rattle.refusal.specs.Outcome.{accepted, first}
 use Rattle.refusal.proofs.First.{first-none, first-accepted}
 use Rattle.plan.specs.Fill.{fill-outcome, filled}
-use Rattle.plan.specs.Range.{last-index}
+use Rattle.word.specs.Index.{index-count, last-index}
 use Rattle.plan.specs.Walk.{open-outcome}
-use Rattle.plan.specs.Lists.{paired, held, walked}
+use Rattle.plan.specs.Lists.{paired, held, visits-walked}
 use Rattle.plan.proofs.Filling.{written}
 
 -- ---- fills
@@ -28,38 +28,38 @@ unfolding paired range
 paired-each S start zero = refl
 paired-each S start (suc n) = ap (λ (l : List Visit). visit S start ∷ l) (paired-each S (suc start) n)
 
-pub filled-visits : (S : Sequence) (start : ℕ) (xs ys : List ℕ) → fill-outcome start xs ys ≡ accepted tt
-    → held start (filled S start xs ys) ≡ visits S start (length xs)
-filled-visits S start xs ys e =
+pub filled-visits : (n : ℕ) (S : Sequence) (start : ℕ) (xs ys : List ℕ) → fill-outcome n start xs ys ≡ accepted tt
+    → held start (filled n S start xs ys) ≡ visits S start (length xs)
+filled-visits n S start xs ys e =
     let (passed, after) = first-accepted (accepted tt) 8 _ (not (eqb (length xs) (length ys))) e in
     let equal = eqb-true (length xs) (length ys) (not-false (eqb (length xs) (length ys)) passed) in
-    ap (held start) (written start xs ys S e)
-    ∙ ap (λ (n : ℕ). paired start (map (S .x) (range start (length xs))) (map (S .y) (range start n))) (sym equal)
+    ap (held start) (written n start xs ys S e)
+    ∙ ap (λ (l : ℕ). paired start (map (S .x) (range start (length xs))) (map (S .y) (range start l))) (sym equal)
     ∙ paired-each S start (length xs)
 
 -- ---- walks
 
-module _ (start count : ℕ) (w : Walk) (accepts : open-outcome start count ≡ accepted w) where
+module _ (n start count : ℕ) (w : Walk) (accepts : open-outcome n start count ≡ accepted w) where
   abbrev new : Walk
   new = record { next = start; left = count }
 
-  passed : (ltb (2 ^ 32) (start + count) ≡ false) × (first [] (accepted new) ≡ accepted w)
-  passed = first-accepted (accepted new) 9 [] (ltb (2 ^ 32) (start + count)) accepts
+  passed : (ltb n (start + count) ≡ false) × (first [] (accepted new) ≡ accepted w)
+  passed = first-accepted (accepted new) 9 [] (ltb n (start + count)) accepts
 
   pub opened : w ≡ record { next = start; left = count }
   opened = let e : accepted new ≡ accepted w = sym (first-none (accepted new)) ∙ passed .1 in cc
 
-  pub within : start + count ≤ 2 ^ 32
-  within = ltb-false (2 ^ 32) (start + count) (passed .0)
+  pub within : start + count ≤ n
+  within = ltb-false n (start + count) (passed .0)
 
-module _ (S : Sequence) (start count : ℕ) (w : Walk) (accepts : open-outcome start count ≡ accepted w) (n : ℕ) where
+module _ (S : Sequence) (start count : ℕ) (w : Walk) (accepts : open-outcome index-count start count ≡ accepted w) (n : ℕ) where
   pub steps : answers (visit S) last-index n w ≡ given (visit S) n start count
   steps =
-      ap (answers (visit S) last-index n) (opened start count w accepts)
-      ∙ list-within (visit S) last-index start count n (within start count w accepts)
+      ap (answers (visit S) last-index n) (opened index-count start count w accepts)
+      ∙ list-within (visit S) last-index start count n (within index-count start count w accepts)
 
-  pub walk-visits : walked S n w ≡ visits S start (min n count)
-  walk-visits = ap told steps ∙ told-given (visit S) n start count
+  pub walk-visits : visits-walked S n w ≡ visits S start (min n count)
+  walk-visits = ap visits-given steps ∙ visits-given-is (visit S) n start count
 
   pub last-walk : start ≤ last-index → Walked (visit S) last-index start count n
-  last-walk from = ranges.walked (visit S) last-index start count n from (within start count w accepts)
+  last-walk from = ranges.walked (visit S) last-index start count n from (within index-count start count w accepts)

@@ -13,18 +13,18 @@ use Rattle.plan.specs.Range.{past-last}
 abbrev pub lengths-differ : List ℕ → List ℕ → Test
 lengths-differ xs ys = record { number = 8; holds = not (eqb (length xs) (length ys)) }
 
--- what a fill of buffers that hold xs and ys comes to, from index start on
-abbrev pub fill-outcome : ℕ → List ℕ → List ℕ → Outcome Unit
-fill-outcome start xs ys = first (lengths-differ xs ys ∷ past-last start (length xs) ∷ []) (accepted tt)
+-- what a fill of buffers that hold xs and ys comes to, from index start on, where there are n indexes
+abbrev pub fill-outcome : (n start : ℕ) → List ℕ → List ℕ → Outcome Unit
+fill-outcome n start xs ys = first (lengths-differ xs ys ∷ past-last n start (length xs) ∷ []) (accepted tt)
 
 -- the content of the two buffers
 pub record Buffers : Type 0 where
   pub x : List ℕ
   pub y : List ℕ
 
--- what they hold then: the coordinates of the indexes from start on, in order, in every place of both; a refused fill leaves xs and ys
-abbrev pub filled : Sequence → ℕ → List ℕ → List ℕ → Buffers
-filled S start xs ys =
-    granted (fill-outcome start xs ys)
+-- what they hold then: the coordinates of the indexes from start on, in order, in every word of both; a refused fill leaves xs and ys
+abbrev pub filled : (n : ℕ) → Sequence → (start : ℕ) → List ℕ → List ℕ → Buffers
+filled n S start xs ys =
+    granted (fill-outcome n start xs ys)
     (record { x = map (S .x) (range start (length xs)); y = map (S .y) (range start (length ys)) })
     (record { x = xs; y = ys })

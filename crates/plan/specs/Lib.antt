@@ -3,3 +3,4 @@ pub mod Pair
 pub mod Fill
 pub mod Walk
 pub mod Lists
+pub mod Theorem

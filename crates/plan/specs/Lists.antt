@@ -4,8 +4,8 @@ use Prim.Native.Nat.{ℕ, suc}
 use Rattle.net.specs.Sequence.{Sequence, point}
 use Rattle.ranges.specs.Range.{range}
 use Rattle.net.specs.Run.{Visit, visit}
-use Rattle.ranges.specs.Walk.{Walk, answers, told}
-use Rattle.plan.specs.Range.{last-index}
+use Rattle.ranges.specs.Walk.{Walk, answers, visits-given}
+use Rattle.word.specs.Index.{last-index}
 use Rattle.plan.specs.Fill.{Buffers}
 
 -- an index with a point
@@ -26,5 +26,5 @@ abbrev pub held : ℕ → Buffers → List Visit
 held start b = paired start (b .x) (b .y)
 
 -- the visits that n steps give, the first on the walk w and each later one on the walk that the one before it handed back
-abbrev pub walked : Sequence → ℕ → Walk → List Visit
-walked S n w = told (answers (visit S) last-index n w)
+abbrev pub visits-walked : Sequence → ℕ → Walk → List Visit
+visits-walked S n w = visits-given (answers (visit S) last-index n w)

@@ -1,33 +1,30 @@
--- Generator matrices of 32 words each, their sequences, levels, the standard pair, and the matrices that 64 words hold.
+-- Plans: their generator matrices, what follows the products, their sequences, levels, the standard pair, and loading from words.
 use mathlib.Core.Bool.{not, _||_}
 use mathlib.Core.List.{List, [], _∷_}
-use Prim.Native.Nat.{ℕ, _≤_}
+use Prim.Native.Nat.{ℕ, _+_, _≤_}
 use lib.Dec.{eqb, ltb}
 use lib.ListN.{length, take, drop, replicate}
 use Rattle.net.specs.Generators.{Generators}
 use Rattle.net.specs.Sequence.{Sequence}
-use Rattle.net.specs.Finish.{Finish, digital, shift}
-use Rattle.word.specs.Matrices.{standard-matrices}
+use Rattle.net.specs.Scrambling.{Scrambling, digital, shift}
 use Rattle.refusal.specs.Outcome.{Outcome, accepted, Test, first, granted}
+use Rattle.word.specs.Index.{index-bits}
+use Rattle.word.specs.Matrices.{pair, standard-matrices}
 use Rattle.plan.specs.declared.pair.Plan.{Plan}
-use Rattle.plan.specs.declared.pair.Shift.{Shift}
-use Rattle.plan.specs.declared.pair.Point.{Point}
-
--- two lists of words as generator matrices (01: the pair): base two, 32 rows
-abbrev pub pair : List ℕ → List ℕ → Generators
-pair x y = record { b = 2; R = 32; X = x; Y = y }
+use Rattle.plan.specs.declared.points.Shift.{Shift}
+use Rattle.plan.specs.declared.points.Point.{Point}
 
 -- the generator matrices of a plan
 abbrev pub generators : Plan → Generators
 generators P = pair (P .x) (P .y)
 
 -- what follows the product: the digital shift (01: scramble) of each axis
-abbrev pub finish : Shift → Finish
-finish s = shift 2 (s .x) (s .y)
+abbrev pub scrambling : Shift → Scrambling
+scrambling s = shift 2 (s .x) (s .y)
 
 -- the points of a plan under a shift
 abbrev pub sequence : Plan → Shift → Sequence
-sequence P s = digital (generators P) (finish s)
+sequence P s = digital (generators P) (scrambling s)
 
 -- the code's point as two numbers
 abbrev pub of-point : Point → ℕ × ℕ
@@ -60,9 +57,9 @@ standard-pair = of-matrices standard-matrices
 
 -- ---- matrices from words
 
--- 1: not 64 words
+-- 1: not 64 words, one for each column of both matrices
 abbrev pub not-a-pair : List ℕ → Test
-not-a-pair words = record { number = 1; holds = not (eqb (length words) 64) }
+not-a-pair words = record { number = 1; holds = not (eqb (length words) (index-bits + index-bits)) }
 
 -- what loading words comes to
 abbrev pub load-outcome : List ℕ → Outcome Unit
@@ -70,4 +67,7 @@ load-outcome words = first (not-a-pair words ∷ []) (accepted tt)
 
 -- the matrices loaded, the columns of X first; of words that are refused every column is 0
 abbrev pub loaded : List ℕ → Plan
-loaded words = granted (load-outcome words) (record { x = take 32 words; y = drop 32 words }) (record { x = replicate 32 0; y = replicate 32 0 })
+loaded words =
+    granted (load-outcome words)
+    (record { x = take index-bits words; y = drop index-bits words })
+    (record { x = replicate index-bits 0; y = replicate index-bits 0 })

@@ -1,16 +1,8 @@
--- The range of the indexes.
-use Prim.Native.Nat.{ℕ, _+_, _-_, _^_}
-use lib.Dec.{ltb}
+-- The test of a range of indexes.
+use Prim.Native.Nat.{ℕ}
 use Rattle.refusal.specs.Outcome.{Test}
+use Rattle.word.specs.Index.{goes-past}
 
--- indexes have 32 bits
-abbrev pub index-bits : ℕ
-index-bits = 32
-
--- the last index
-abbrev pub last-index : ℕ
-last-index = 2 ^ index-bits - 1
-
--- 9: start + count above 2 ^ 32
-abbrev pub past-last : ℕ → ℕ → Test
-past-last start count = record { number = 9; holds = ltb (2 ^ index-bits) (start + count) }
+-- 9: start + count is above the number n of indexes
+abbrev pub past-last : (n start count : ℕ) → Test
+past-last n start count = record { number = 9; holds = goes-past n start count }

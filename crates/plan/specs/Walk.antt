@@ -14,9 +14,9 @@ use Rattle.plan.specs.declared.walks.Stepped.{Stepped as SteppedCode}
 use Rattle.plan.specs.declared.walks.Opened.{Opened as OpenedCode}
 use Rattle.plan.specs.declared.walks.Opened.the-variants as opened
 
--- a walk over count visits from start on, or a refusal
-abbrev pub open-outcome : ℕ → ℕ → Outcome Walk
-open-outcome start count = first (past-last start count ∷ []) (accepted (record { next = start; left = count }))
+-- a walk over count visits from start on, or a refusal, where there are n indexes
+abbrev pub open-outcome : (n start count : ℕ) → Outcome Walk
+open-outcome n start count = first (past-last n start count ∷ []) (accepted (record { next = start; left = count }))
 
 -- field by field, and case by case
 abbrev pub of-walk : WalkCode → Walk

@@ -1,18 +1,16 @@
-// The plan: two generator matrices by value (01: the pair), the digital shift (01: scramble), and what they give: points, fills
-// of two lent buffers, and walks. Every public function is total: no `requires`, no trap, each answer and each lent buffer
-// promised on all inputs.
+// The plan: two generator matrices by value (01: the pair), what follows their products, the digital shift (01: scramble), and what they
+// give: points, fills of two lent buffers, and walks. Every public function is total: no `requires`, no trap, each answer and each lent
+// buffer promised on all inputs.
 mod fills;
-mod indexes;
 mod pair;
+mod points;
 mod walks;
 
 pub use fills::fill;
-pub use indexes::INDEX_BITS;
-pub use indexes::Index;
 pub use pair::Loaded;
 pub use pair::Plan;
-pub use pair::Point;
-pub use pair::Shift;
+pub use points::Point;
+pub use points::Shift;
 pub use walks::Opened;
 pub use walks::Step;
 pub use walks::Stepped;

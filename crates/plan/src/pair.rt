@@ -1,30 +1,23 @@
-// Generator matrices (01: the pair) by value, taken from words or standard, and the point of an index.
+// Generator matrices (01: the pair) by value, from words or the standard ones, and the point of an index.
+use crate::Point;
+use crate::Shift;
+use refusal::Judgement;
+use refusal::Refusal;
+use word::COLUMNS;
+use word::Columns;
+use word::Index;
 ghost use mathlib.Core.Path.{_≡_};
-ghost use lib.ListN.{length};
 ghost use Rattle.net.specs.Sequence.{point};
 ghost use Rattle.refusal.specs.Refusal.{of-judgement};
 ghost use Rattle.plan.specs.Pair.{sequence, standard-pair, unknown-level, load-outcome, loaded, of-point};
-use crate::Index;
-use refusal::Judgement;
-use refusal::Refusal;
-use word::Columns;
+
+// The words of a pair: the columns of both matrices.
+const PAIR_WORDS: usize = 64;
 
 // Two generator matrices by their columns: column c belongs to index bit c, and row 0 is the top bit of a column.
 pub struct Plan {
     pub x: Columns,
     pub y: Columns,
-}
-
-// A digital shift (01: scramble): a word for each axis, added without carries.
-pub struct Shift {
-    pub x: u32,
-    pub y: u32,
-}
-
-// The two coordinates of a visit.
-pub struct Point {
-    pub x: u32,
-    pub y: u32,
 }
 
 // The answer stands beside the matrices, since an enum holds no array. Of a refused pair they are all zero, which no check passes.
@@ -61,55 +54,42 @@ impl Plan {
         ensures answer { λ r. ⌜ of-judgement (r .answer) ≡ load-outcome (now (words .entry)) ⌝ }
         ensures plan { λ r. ⌜ r .plan ≡ loaded (now (words .entry)) ⌝ }
     {
-        if words.len() != 64 {
+        if words.len() != PAIR_WORDS {
             return Loaded {
                 answer: Judgement::Refused(Refusal::WordCount),
                 plan: Plan {
-                    x: [0; 32],
-                    y: [0; 32],
+                    x: [0; COLUMNS],
+                    y: [0; COLUMNS],
                 },
             };
         }
-        let x = copied(&words[..32]);
-        let y = copied(&words[32..]);
+        let x = word::columns(&words[..COLUMNS]);
+        let y = word::columns(&words[COLUMNS..]);
         Loaded {
             answer: Judgement::Accepted,
             plan: Plan { x, y },
         }
     }
 
-    // The point of an index: in each axis the product of the matrix with the index, shifted.
+    // The point of an index: in each axis the product of the matrix with the index, and what follows it.
     pub fn point(self, shift: Shift, index: Index) -> Point
         ensures { λ r. ⌜ of-point r ≡ point (sequence self shift) index ⌝ }
     {
         let x = self.x;
         let y = self.y;
-        Point {
-            x: word::coordinate(x, index, shift.x),
-            y: word::coordinate(y, index, shift.y),
-        }
+        shift.scramble(Point {
+            x: word::product(x, index),
+            y: word::product(y, index),
+        })
     }
 
     // The same of the standard matrices, by the fast way.
     pub fn standard_point(shift: Shift, index: Index) -> Point
         ensures { λ r. ⌜ of-point r ≡ point (sequence standard-pair shift) index ⌝ }
     {
-        let x = word::standard_x(index, shift.x);
-        let y = word::standard_y(index, shift.y);
-        Point { x, y }
+        shift.scramble(Point {
+            x: word::standard_x(index),
+            y: word::standard_y(index),
+        })
     }
-}
-
-// A copy of 32 words.
-fn copied(words: &[u32]) -> Columns
-    requires { ⌜ length (now words) ≡ 32 ⌝ }
-    ensures { λ r. ⌜ r ≡ now (words .entry) ⌝ }
-{
-    let mut own = [0u32; 32];
-    let mut i = 0;
-    while i < 32 {
-        own[i] = words[i];
-        i += 1;
-    }
-    own
 }

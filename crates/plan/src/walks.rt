@@ -1,16 +1,15 @@
 // A walk over visits, stepped by value: a step hands back the visit or the end, together with the walk after it.
-ghost use mathlib.Core.Path.{_≡_};
-ghost use Rattle.net.specs.Run.{visit};
-ghost use Rattle.ranges.specs.Walk.{step};
-ghost use Rattle.plan.specs.Pair.{sequence};
-ghost use Rattle.plan.specs.Range.{last-index};
-ghost use Rattle.plan.specs.Walk.{open-outcome, of-opened, of-walk, of-stepped};
-use crate::Index;
 use crate::Plan;
 use crate::Shift;
-use crate::indexes::LAST_INDEX;
-use crate::indexes::past_last;
 use refusal::Refusal;
+use word::Index;
+use word::LAST_INDEX;
+ghost use mathlib.Core.Path.{_≡_};
+ghost use Rattle.ranges.specs.Walk.{step};
+ghost use Rattle.net.specs.Run.{visit};
+ghost use Rattle.word.specs.Index.{index-count, last-index};
+ghost use Rattle.plan.specs.Pair.{sequence};
+ghost use Rattle.plan.specs.Walk.{open-outcome, of-opened, of-walk, of-stepped};
 
 // The next index, and how many visits are left (01's word; the field: a cursor).
 pub struct Walk {
@@ -46,9 +45,9 @@ pub struct Stepped {
 impl Walk {
     // A walk over count visits from start on.
     pub fn open(start: Index, count: u64) -> Opened
-        ensures { λ r. ⌜ of-opened r ≡ open-outcome start count ⌝ }
+        ensures { λ r. ⌜ of-opened r ≡ open-outcome index-count start count ⌝ }
     {
-        if past_last(start, count) {
+        if word::goes_past(start, count) {
             return Opened::Refused(Refusal::IndexRange);
         }
         Opened::Open(Walk {

@@ -21,11 +21,7 @@ use Rattle.net.proofs.Two.{trailing-zeros-lowest}
 use Rattle.products.specs.Products.{offset-product}
 use Rattle.word.specs.Prefix.{ones, prefixes}
 use Rattle.ranges.proofs.Filled.{Filled, filled-none, filled-more, filled-part, filled-all}
-use Rattle.word.proofs.Prefix.{product-next, lowest-lt}
-
--- the place of the lowest bit is within the running sums
-pub turns-below : (n : ℕ) → 0 < n → n < 2 ^ 32 → trailingZeros 32 n < 32
-turns-below n some fits = rw (trailing-zeros-lowest 32 n) (lowest-lt one-lt-two 32 n (λ e. omega (arith, e, some)) fits)
+use Rattle.word.proofs.Prefix.{product-next, trailing-zeros-below}
 
 module _ (C : List ℕ) (s : ℕ) where
   -- what is added to the product before the shift may be added after it
@@ -51,7 +47,7 @@ module _ (C : List ℕ) (s : ℕ) where
       entry : getD sums t 0 ≡ product 2 C (ones 2 (suc t))
       entry =
           ap (λ (l : List ℕ). getD l t 0) e
-          ∙ getD-each (λ (k : ℕ). product 2 C (ones 2 (suc k))) 0 32 t 0 (turns-below (suc i) (omega arith) h)
+          ∙ getD-each (λ (k : ℕ). product 2 C (ones 2 (suc k))) 0 32 t 0 (trailing-zeros-below (suc i) (omega arith) h)
           ∙ ap (λ (k : ℕ). product 2 C (ones 2 (suc k))) (zero-add t)
 
       step : product 2 C (suc i) ≡ plus 2 (product 2 C i) (product 2 C (ones 2 (suc t)))
@@ -120,8 +116,8 @@ module _ {C : List ℕ} {s start k : ℕ} {l buffer : List ℕ} {word : ℕ} (no
 -- the last of the words so far leads to the next
 pub next-word : (C : List ℕ) (s : ℕ) (sums : List ℕ) → sums ≡ prefixes 2 32 C → (last at t : ℕ) → t ≡ trailingZeros 32 (at + 1) → at + 1 < 2 ^ 32
     → last ≡ offset-product C s at → bitXor last (getD sums t 0) ≡ offset-product C s (at + 1)
-next-word C s sums e last at t place h is =
-    ap₂ (λ (w k : ℕ). bitXor w (getD sums k 0)) is (place ∙ ap (trailingZeros 32) (add-one at))
+next-word C s sums e last at t turn h is =
+    ap₂ (λ (w k : ℕ). bitXor w (getD sums k 0)) is (turn ∙ ap (trailingZeros 32) (add-one at))
     ∙ next-product C s sums e at (omega arith)
     ∙ ap (offset-product C s) (sym (add-one at))
 
@@ -139,8 +135,8 @@ module _ {C : List ℕ} {s start k : ℕ} {l buffer : List ℕ} {word : ℕ} (no
 
   pub group-next : (sums : List ℕ) → sums ≡ prefixes 2 32 C → (t : ℕ) → t ≡ trailingZeros 32 (start + (k + 64)) → start + (k + 64) < 2 ^ 32
       → bitXor (bitXor word (getD low 63 0)) (getD sums t 0) ≡ offset-product C s (start + (k + 64))
-  group-next sums e t place h =
-      next-word C s sums e (bitXor word (getD low 63 0)) (start + k + 63) t (place ∙ ap (trailingZeros 32) (omega arith)) (omega (arith, h))
+  group-next sums e t turn h =
+      next-word C s sums e (bitXor word (getD low 63 0)) (start + k + 63) t (turn ∙ ap (trailingZeros 32) (omega arith)) (omega (arith, h))
       (sym (plus-two word (getD low 63 0)) ∙ ap (λ (w : ℕ). plus 2 w (getD low 63 0)) (now .word-is here)
       ∙ group-product C s low first (start + k) 63 whole (omega arith))
       ∙ ap (offset-product C s) (omega arith)

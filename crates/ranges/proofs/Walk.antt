@@ -8,7 +8,7 @@ use native.Mathlib.Omega.{arith}
 use borrow.Author.Tests.{lt-ltb, le-ltb, eq-eqb, ne-eqb}
 use lib.ListN.{replicate}
 use Rattle.ranges.specs.Range.{range}
-use Rattle.ranges.specs.Walk.{Walk, Answer, visited, ended, Stepped, step, answers, after, given, told}
+use Rattle.ranges.specs.Walk.{Walk, Answer, visited, ended, Stepped, step, answers, after, given, visits-given}
 use Rattle.ranges.specs.Theorem.{Walked, WalkedByHand}
 use Rattle.ranges.proofs.Order.{lt-or-ge}
 
@@ -147,18 +147,18 @@ module _ {A : Type 0} (visit-of : ℕ → A) where
 -- ---- the visits that were given
 
 module _ {A : Type 0} (visit-of : ℕ → A) where
-  told-append : (l : List ℕ) (r : List (Answer A)) → told (map (λ i. visited (visit-of i)) l ++ r) ≡ map visit-of l ++ told r
-  unfolding told
-  told-append [] r = refl
-  told-append (i ∷ l) r = ap (λ (t : List A). visit-of i ∷ t) (told-append l r)
+  visits-given-append : (l : List ℕ) (r : List (Answer A)) → visits-given (map (λ i. visited (visit-of i)) l ++ r) ≡ map visit-of l ++ visits-given r
+  unfolding visits-given
+  visits-given-append [] r = refl
+  visits-given-append (i ∷ l) r = ap (λ (t : List A). visit-of i ∷ t) (visits-given-append l r)
 
-  told-ended : (k : ℕ) → told {A = A} (replicate k ended) ≡ []
-  unfolding told
-  told-ended zero = refl
-  told-ended (suc k) = told-ended k
+  visits-given-ended : (k : ℕ) → visits-given {A = A} (replicate k ended) ≡ []
+  unfolding visits-given
+  visits-given-ended zero = refl
+  visits-given-ended (suc k) = visits-given-ended k
 
-  pub told-given : (n start count : ℕ) → told (given visit-of n start count) ≡ map visit-of (range start (min n count))
-  told-given n start count =
-      told-append (range start (min n count)) (replicate (n - count) ended)
-      ∙ ap (λ (t : List A). map visit-of (range start (min n count)) ++ t) (told-ended (n - count))
+  pub visits-given-is : (n start count : ℕ) → visits-given (given visit-of n start count) ≡ map visit-of (range start (min n count))
+  visits-given-is n start count =
+      visits-given-append (range start (min n count)) (replicate (n - count) ended)
+      ∙ ap (λ (t : List A). map visit-of (range start (min n count)) ++ t) (visits-given-ended (n - count))
       ∙ append-nil (map visit-of (range start (min n count)))

@@ -51,7 +51,7 @@ abbrev pub given : {A : Type 0} → (ℕ → A) → ℕ → ℕ → ℕ → List
 given visit-of n s c = map (λ i. visited (visit-of i)) (range s (min n c)) ++ replicate (n - c) ended
 
 -- the visits that a list of answers gives
-unfoldable pub told : {A : Type 0} → List (Answer A) → List A
-told [] = []
-told (visited v ∷ l) = v ∷ told l
-told (ended ∷ l) = told l
+unfoldable pub visits-given : {A : Type 0} → List (Answer A) → List A
+visits-given [] = []
+visits-given (visited v ∷ l) = v ∷ visits-given l
+visits-given (ended ∷ l) = visits-given l

@@ -7,18 +7,18 @@ use lib.Pow.{pow-mono}
 use Rattle.digits.proofs.Two.{one-lt-two}
 use Rattle.ranges.specs.Unique.{Only}
 use Rattle.net.specs.Sequence.{Fits, VisitIn}
-use Rattle.net.specs.Finish.{plain, shifted}
+use Rattle.net.specs.Scrambling.{plain, shifted}
 use Rattle.net.specs.Shape.{Shape}
 use Rattle.net.specs.Elimination.{BasisEntry, interval, solve, plain-interval, basis-index}
 use Rattle.net.proofs.Interval.{plain-fits, plain-interval-lt}
-use Rattle.net.proofs.Finish.{shift-lawful, finished-fits}
-use Rattle.plan.specs.Pair.{pair}
+use Rattle.net.proofs.Scrambling.{shift-lawful, scrambled-fits}
+use Rattle.word.specs.Matrices.{pair}
 use Rattle.net.specs.Answers.{Solved}
 
 module _ {x y : List ℕ} {m a : ℕ} (shape : Shape (pair x y) m a) (s t : ℕ) (hs : s < 2 ^ 32) (ht : t < 2 ^ 32)
     (k c r : ℕ) (hc : c < 2 ^ a) (hr : r < 2 ^ (m - a)) where
   fits : Fits (shifted (pair x y) s t)
-  fits = finished-fits (plain-fits (shape .valid)) (record { x = shift-lawful one-lt-two 32 s hs; y = shift-lawful one-lt-two 32 t ht })
+  fits = scrambled-fits (plain-fits (shape .valid)) (record { x = shift-lawful one-lt-two 32 s hs; y = shift-lawful one-lt-two 32 t ht })
 
   pub cell-lt : plain-interval (shifted (pair x y) s t) m a k c r < 2 ^ 32
   cell-lt = lt-of-lt-of-le (plain-interval-lt one-lt-two fits m a (shape .wide) (shape .fits) k c r hc hr) (pow-mono (shape .fits))

@@ -1,7 +1,7 @@
 -- Demand 3 at its limits, of the standard pair under any shift. Assumes nothing.
 use Prim.Native.Nat.{ℕ, _-_, _^_, _≤_, _<_}
 use lib.Dec.{lit<, lit≤}
-use Rattle.plan.specs.declared.pair.Shift.{Shift}
+use Rattle.plan.specs.declared.points.Shift.{Shift}
 use Rattle.plan.specs.Pair.{standard-pair}
 use Rattle.stratify.specs.Answers.{ShiftFits}
 use Rattle.stratify.specs.Theorem.{VisitedOnce}

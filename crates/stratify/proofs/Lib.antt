@@ -1,9 +1,6 @@
 pub mod Reduction
 pub mod Clearing
 pub mod Refinement
-pub mod Pivots
-pub mod Scanned
-pub mod Transposed
 pub mod Cell
 pub mod Tests
 pub mod Outcomes

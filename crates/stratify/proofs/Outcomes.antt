@@ -11,8 +11,8 @@ use Rattle.net.specs.Query.{Location, found, no-net, locate}
 use Rattle.refusal.specs.Outcome.{Outcome, accepted, not-net}
 use Rattle.refusal.proofs.First.{first-none, first-passes, accepted-refused}
 use Rattle.plan.specs.declared.pair.Plan.{Plan}
-use Rattle.plan.specs.declared.pair.Shift.{Shift}
-use Rattle.plan.specs.Pair.{generators, finish, loaded, Level}
+use Rattle.plan.specs.declared.points.Shift.{Shift}
+use Rattle.plan.specs.Pair.{generators, scrambling, loaded, Level}
 use Rattle.stratify.specs.Answers.{of-verdict, check-outcome, of-location, query-outcome, Cell}
 use Rattle.plan.proofs.Level.{level-known}
 use Rattle.stratify.proofs.Tests.{cell-within}
@@ -20,9 +20,9 @@ use Rattle.stratify.proofs.Tests.{cell-within}
 -- ---- past the tests
 
 pub query-outcome-is : (P : Plan) (s : Shift) (level m a k c r : ℕ) → Level level → Cell level m a k c r
-    → query-outcome P s level m a k c r ≡ of-location m a (locate (generators P) (finish s) m a k c r)
+    → query-outcome P s level m a k c r ≡ of-location m a (locate (generators P) (scrambling s) m a k c r)
 query-outcome-is P s level m a k c r known cell =
-    let after = of-location m a (locate (generators P) (finish s) m a k c r) in
+    let after = of-location m a (locate (generators P) (scrambling s) m a k c r) in
     first-passes after 2 _ (level-known level known)
     ∙ first-passes after 4 _ (le-ltb level m (cell .size))
     ∙ first-passes after 5 _ (le-ltb m a (cell .wide))

@@ -14,17 +14,17 @@ use Rattle.digits.proofs.Arithmetic.{zero-plus}
 use Rattle.digits.proofs.Two.{one-lt-two}
 use Rattle.linear.proofs.Prime.{two}
 use Rattle.ranges.proofs.Order.{lt-or-ge}
-use Rattle.net.specs.Finish.{plain}
+use Rattle.net.specs.Scrambling.{plain}
 use Rattle.net.specs.Shape.{Shape}
 use Rattle.net.specs.Sequence.{Least}
 use Rattle.net.specs.Elimination.{Additive, Choice, BasisEntry, serial, interval, reduce, solve, new-entry}
-use Rattle.net.specs.Elimination.{Outcome, kernel, basis, eliminate, eliminate-shape}
-use Rattle.net.specs.Answers.{Eliminated}
+use Rattle.net.specs.Elimination.{Eliminated, kernel, basis, eliminate, eliminate-shape}
+use Rattle.net.specs.Answers.{Decided}
 use Rattle.net.proofs.Interval.{interval-pow, interval-additive}
 use Rattle.net.proofs.Elimination.{eliminate-ends, eliminate-stops, eliminate-goes-on}
 use Rattle.net.proofs.Basis.{eliminated}
 use Rattle.net.proofs.Two.{trailing-zeros}
-use Rattle.plan.specs.Pair.{pair}
+use Rattle.word.specs.Matrices.{pair}
 use Rattle.stratify.specs.Basis.{entries, Images, Sweeps, added, Clears, Eliminates}
 use Rattle.stratify.proofs.Reduction.{sweep-none, sweep-more, reduced, imaged}
 
@@ -221,9 +221,9 @@ module _ {x y : List ℕ} {m a : ℕ} (shape : Shape (pair x y) m a) where
   abbrev L : ℕ → ℕ
   L = interval (plain (pair x y)) m a
 
-  meant : (o : Outcome) → eliminate 2 L choice m 0 [] ≡ o → Eliminated (pair x y) m a o
+  meant : (o : Eliminated) → eliminate 2 L choice m 0 [] ≡ o → Decided (pair x y) m a o
   unfolding eliminate-shape
-  meant o e = subst (Eliminated (pair x y) m a) e (eliminated shape two choice)
+  meant o e = subst (Decided (pair x y) m a) e (eliminated shape two choice)
 
   pub eliminates-kernel : (asked index j : ℕ) → eliminate 2 L choice m 0 [] ≡ kernel j → Eliminates (pair x y) m a asked j index
   eliminates-kernel asked index j e =

@@ -15,16 +15,16 @@ use Rattle.linear.proofs.Prime.{two}
 use Rattle.ranges.specs.Below.{Below}
 use Rattle.net.specs.Generators.{Valid}
 use Rattle.net.specs.Sequence.{Sequence, column, row, VisitIn}
-use Rattle.net.specs.Finish.{plain, Lawful}
+use Rattle.net.specs.Scrambling.{plain, Lawful}
 use Rattle.net.specs.Shape.{Shape, Passes}
 use Rattle.net.specs.Check.{check}
 use Rattle.net.specs.Query.{locate}
 use Rattle.net.specs.Net.{Net}
-use Rattle.net.specs.Answers.{Located, Checked as NetChecked}
+use Rattle.net.specs.Answers.{Located, CheckDecides}
 use Rattle.net.specs.Run.{Visit, visits, run, hits}
 use Rattle.net.specs.Standard.{standard}
 use Rattle.ranges.proofs.Below.{below-take, below-drop}
-use Rattle.net.proofs.Finish.{shift-lawful}
+use Rattle.net.proofs.Scrambling.{shift-lawful}
 use Rattle.net.proofs.Check.{nonzero, least-index-least}
 use Rattle.net.proofs.Query.{locate-found}
 use Rattle.ranges.proofs.Range.{take-each}
@@ -33,20 +33,20 @@ use Rattle.net.proofs.Theorem as net
 use Rattle.refusal.specs.Outcome.{accepted}
 use Rattle.refusal.proofs.First.{first-accepted}
 use Rattle.plan.specs.declared.pair.Plan.{Plan}
-use Rattle.plan.specs.declared.pair.Shift.{Shift}
-use Rattle.plan.specs.Pair.{generators, finish, sequence, largest-level, unknown-level, Level, loaded}
-use Rattle.plan.specs.Range.{last-index}
-use Rattle.plan.specs.Lists.{walked}
+use Rattle.plan.specs.declared.points.Shift.{Shift}
+use Rattle.plan.specs.Pair.{generators, scrambling, sequence, largest-level, unknown-level, Level, loaded}
+use Rattle.word.specs.Index.{index-count, last-index}
+use Rattle.plan.specs.Lists.{visits-walked}
 use Rattle.ranges.specs.Walk.{Walk}
 use Rattle.plan.proofs.Loading.{loaded-accepted}
 use Rattle.plan.proofs.Lists.{filled-visits, opened, within, steps, walk-visits, last-walk}
 use Rattle.stratify.specs.Answers.{of-verdict, of-location, check-outcome, query-outcome, ShiftFits, Cell}
-use Rattle.stratify.specs.Theorem.{Related, VisitedOnce, Covered, Queried, Checked, Lists, GivesRun, StandardPair, Theorems}
+use Rattle.stratify.specs.Theorem.{PlainRelation, VisitedOnce, Covered, RelatedToPlain, Queried, Checked, Lists, GivesRun, StandardPair, Theorems}
 use Rattle.plan.proofs.Level.{level-of}
 use Rattle.stratify.proofs.Outcomes.{query-outcome-is, check-outcome-is, verdict-accepted, verdict-not-net, verdict-refuses}
 use Rattle.stratify.proofs.Outcomes.{location-accepted, location-not-net}
 
-lawful : (s : Shift) → ShiftFits s → Lawful 2 32 (finish s)
+lawful : (s : Shift) → ShiftFits s → Lawful 2 32 (scrambling s)
 lawful s words = record { x = shift-lawful one-lt-two 32 (s .x) (words .x); y = shift-lawful one-lt-two 32 (s .y) (words .y) }
 
 -- ---- 1, 2: a plan that passes
@@ -60,7 +60,7 @@ module _ {P : Plan} (valid : Valid (generators P)) {M : ℕ} (fits : M ≤ large
     S = sequence P s
 
     one-visit : One (VisitIn S m a k c r)
-    one-visit = (_, N .stratified m a (cell .size) (cell .wide) .one-visit (finish s) (lawful s words) k c r (cell .column) (cell .row))
+    one-visit = (_, N .stratified m a (cell .size) (cell .wide) .one-visit (scrambling s) (lawful s words) k c r (cell .column) (cell .row))
 
     -- the query's answer, for any level that admits the cell
     answered : (i : ℕ) → Only (VisitIn S m a k c r) i → (level : ℕ) → Level level → m ≤ level → query-outcome P s level m a k c r ≡ accepted i
@@ -68,14 +68,14 @@ module _ {P : Plan} (valid : Valid (generators P)) {M : ℕ} (fits : M ≤ large
         let own : Cell level m a k c r = record { size = size; wide = cell .wide; column = cell .column; row = cell .row; block = cell .block } in
         let odd = nonzero (generators P) M passes m a (cell .size) (cell .wide) in
         query-outcome-is P s level m a k c r known own
-        ∙ ap (of-location m a) (locate-found (generators P) (finish s) m a k c r i odd only)
+        ∙ ap (of-location m a) (locate-found (generators P) (scrambling s) m a k c r i odd only)
 
     -- in base two a difference is an exclusive or
     as-xor : (c r u v p : ℕ) → Only (VisitIn (plain (generators P)) m a 0 (minus 2 c u) (minus 2 r v)) p
         → Only (VisitIn (plain (generators P)) m a 0 (bitXor c u) (bitXor r v)) p
     as-xor c r u v p only = rw (← minus-two c u, ← minus-two r v) only
 
-    relation : (p : ℕ) × Related P s m a k c r p
+    relation : (p : ℕ) × PlainRelation P s m a k c r p
     relation =
         let related-in = N .stratified m a (cell .size) (cell .wide) .relation (s .x) (s .y) (words .x) (words .y) k c r in
         let (p, related) = related-in (cell .column) (cell .row) in (
@@ -88,7 +88,7 @@ module _ {P : Plan} (valid : Valid (generators P)) {M : ℕ} (fits : M ≤ large
         )
 
     one-hit : hits S m a c r (run S m k) ≡ 1
-    one-hit = N .one-hit (finish s) (lawful s words) m a k c r (cell .size) (cell .wide) (cell .column) (cell .row)
+    one-hit = N .one-hit (scrambling s) (lawful s words) m a k c r (cell .size) (cell .wide) (cell .column) (cell .row)
 
     -- in a list of visits that begins with the block's first and goes through the block
     hit-in : (l : List Visit) (n : ℕ) → l ≡ visits S (k * 2 ^ m) n → 2 ^ m ≤ n → hits S m a c r (take (2 ^ m) l) ≡ 1
@@ -100,14 +100,17 @@ module _ {P : Plan} (valid : Valid (generators P)) {M : ℕ} (fits : M ≤ large
     visited-once : VisitedOnce P s m a k c r
     visited-once = record {
       one-visit = one-visit;
-      relation = relation;
+      query = answered (one-visit .0) (one-visit .1);
       points = one-hit;
-      fills = λ xs ys e. hit-in _ (length xs) (filled-visits S (k * 2 ^ m) xs ys e);
+      fills = λ xs ys e. hit-in _ (length xs) (filled-visits index-count S (k * 2 ^ m) xs ys e);
       walks = λ count n w e long many. hit-in _ (min n count) (walk-visits S (k * 2 ^ m) count w e n) (omega arith);
     }
 
   covered : Covered P M
   covered = visited-once
+
+  related : RelatedToPlain P M
+  related = relation
 
 -- ---- 3: the query
 
@@ -116,10 +119,10 @@ module _ {P : Plan} (valid : Valid (generators P)) {s : Shift} (words : ShiftFit
   shape : Shape (generators P) m a
   shape = let size = cell .size in let top = known .known in record { valid = valid; wide = cell .wide; fits = omega arith }
 
-  L : Located (generators P) (finish s) m a k c r
+  L : Located (generators P) (scrambling s) m a k c r
   L = net.theorems .located shape two (lawful s words) k c r (cell .column) (cell .row)
 
-  is : query-outcome P s level m a k c r ≡ of-location m a (locate (generators P) (finish s) m a k c r)
+  is : query-outcome P s level m a k c r ≡ of-location m a (locate (generators P) (scrambling s) m a k c r)
   is = query-outcome-is P s level m a k c r known cell
 
   queried : Queried P s level m a k c r
@@ -165,7 +168,7 @@ checked words below long {level} known = record {
       (λ e. C .refused-zero-iff m a j .0 (verdict-not-net is m a j .0 e), λ h. verdict-not-net is m a j .1 (C .refused-zero-iff m a j .1 h));
 }
   where
-    C : NetChecked (generators (loaded words)) level
+    C : CheckDecides (generators (loaded words)) level
     C = net.theorems .checked (valid-loaded words below long) two level (known .known)
 
     is : check-outcome words level ≡ of-verdict (check (generators (loaded words)) level)
@@ -176,8 +179,8 @@ checked words below long {level} known = record {
 lists : (P : Plan) (s : Shift) → Lists P s
 lists P s = record {
   points = λ start n. refl;
-  fills = filled-visits (sequence P s);
-  opened = opened;
+  fills = filled-visits index-count (sequence P s);
+  opened = opened index-count;
   steps = steps (sequence P s);
   walks = walk-visits (sequence P s);
   last-walk = λ start count w e from n. last-walk (sequence P s) start count w e n from;
@@ -187,10 +190,10 @@ lists P s = record {
 gives-run : (P : Plan) (s : Shift) (m k : ℕ) → GivesRun P s m k
 gives-run P s m k = record {
   points = refl;
-  fills = λ p xs ys e. ap (take (2 ^ m - p)) (filled-visits S (k * 2 ^ m + p) xs ys e) ∙ net.theorems .runs S m k .part p (length xs);
+  fills = λ p xs ys e. ap (take (2 ^ m - p)) (filled-visits index-count S (k * 2 ^ m + p) xs ys e) ∙ net.theorems .runs S m k .part p (length xs);
   walks = λ count n w e.
-      ap (λ (v : Walk). take (2 ^ m) (walked S n v)) (opened (k * 2 ^ m) count w e)
-      ∙ net.theorems .walked-run S m k last-index count n (within (k * 2 ^ m) count w e) .list;
+      ap (λ (v : Walk). take (2 ^ m) (visits-walked S n v)) (opened index-count (k * 2 ^ m) count w e)
+      ∙ net.theorems .walked-run S m k last-index count n (within index-count (k * 2 ^ m) count w e) .list;
 }
   where
     S : Sequence
@@ -198,13 +201,24 @@ gives-run P s m k = record {
 
 -- ---- words that the check accepts
 
-accepted-covered : (words : List ℕ) → Below (2 ^ 32) words → (M : ℕ) → check-outcome words M ≡ accepted tt → Covered (loaded words) M
-accepted-covered words below M e =
+pub record Accepts (words : List ℕ) (M : ℕ) : Type 0 where
+  pub valid : Valid (generators (loaded words))
+  pub known : Level M
+  pub passes : Passes (generators (loaded words)) M
+
+accepts : (words : List ℕ) → Below (2 ^ 32) words → (M : ℕ) → check-outcome words M ≡ accepted tt → Accepts words M
+accepts words below M e =
     let (one, rest) = first-accepted _ 1 _ (not (eqb (length words) 64)) e in
     let (second, last) = first-accepted _ 2 _ (unknown-level M .holds) rest in
     let long = eqb-true (length words) 64 (not-false (eqb (length words) 64) one) in
     let known = level-of M second in
-    covered (valid-loaded words below long) (known .known) (checked words below long known .accepted-iff .0 e)
+    record { valid = valid-loaded words below long; known = known; passes = checked words below long known .accepted-iff .0 e }
+
+accepted-covered : (words : List ℕ) → Below (2 ^ 32) words → (M : ℕ) → check-outcome words M ≡ accepted tt → Covered (loaded words) M
+accepted-covered words below M e = let a = accepts words below M e in covered (a .valid) (a .known .known) (a .passes)
+
+accepted-related : (words : List ℕ) → Below (2 ^ 32) words → (M : ℕ) → check-outcome words M ≡ accepted tt → RelatedToPlain (loaded words) M
+accepted-related words below M e = let a = accepts words below M e in related (a .valid) (a .known .known) (a .passes)
 
 -- ---- the standard pair
 
@@ -217,15 +231,18 @@ standard-pair-theorem =
       valid = T .valid;
       passes = T .passes;
       covered = covered (T .valid) (omega arith) (T .passes);
+      related = related (T .valid) (omega arith) (T .passes);
     }
 
 pub theorems : Theorems
 theorems = record {
   covered = covered;
+  related = related;
   queried = queried;
   size-zero = size-zero;
   checked = checked;
   accepted-covered = accepted-covered;
+  accepted-related = accepted-related;
   unshifted = λ P. net.theorems .unshifted (generators P) one-lt-two;
   lists = lists;
   gives-run = gives-run;

@@ -8,11 +8,11 @@ use Rattle.net.specs.Query.{Location, found, no-net, locate}
 use Rattle.refusal.specs.Outcome.{Outcome, accepted, not-net, Test, first}
 use Rattle.refusal.specs.Refusal.{of-refusal}
 use Rattle.plan.specs.declared.pair.Plan.{Plan}
-use Rattle.plan.specs.declared.pair.Shift.{Shift}
-use Rattle.plan.specs.Range.{index-bits}
-use Rattle.plan.specs.Pair.{generators, finish, loaded, not-a-pair, unknown-level}
-use Rattle.stratify.specs.declared.cells.Located.{Located}
-use Rattle.stratify.specs.declared.cells.Located.the-variants as located
+use Rattle.plan.specs.declared.points.Shift.{Shift}
+use Rattle.word.specs.Index.{index-bits}
+use Rattle.plan.specs.Pair.{generators, scrambling, loaded, not-a-pair, unknown-level}
+use Rattle.stratify.specs.declared.queries.Located.{Located}
+use Rattle.stratify.specs.declared.queries.Located.the-variants as located
 
 -- ---- the check
 
@@ -55,7 +55,7 @@ of-location m a (no-net j) = not-net m a j
 
 -- what the query comes to: refused under 2, 4, 5, 6, 7 or 3, in this order
 abbrev pub query-outcome : Plan → Shift → (level m a k c r : ℕ) → Outcome ℕ
-query-outcome P s level m a k c r = first (query-tests level m a k c r) (of-location m a (locate (generators P) (finish s) m a k c r))
+query-outcome P s level m a k c r = first (query-tests level m a k c r) (of-location m a (locate (generators P) (scrambling s) m a k c r))
 
 -- the code's answer
 abbrev pub of-located : Located → Outcome ℕ

@@ -10,7 +10,7 @@ use lib.ListN.{length, getD}
 use Rattle.digits.specs.Digits.{plus, minus}
 use Rattle.net.specs.Generators.{Generators}
 use Rattle.net.specs.Sequence.{Least}
-use Rattle.net.specs.Finish.{plain}
+use Rattle.net.specs.Scrambling.{plain}
 use Rattle.net.specs.Elimination.{Additive, BasisEntry, interval, solve}
 use Rattle.net.specs.Answers.{Solved}
 

@@ -1,4 +1,3 @@
 pub mod Answers
 pub mod Theorem
 pub mod Basis
-pub mod Minors

@@ -11,47 +11,53 @@ use Rattle.ranges.specs.Unique.{Only, One}
 use Rattle.ranges.specs.Below.{Below}
 use Rattle.net.specs.Generators.{Valid, entry}
 use Rattle.net.specs.Sequence.{column, row, VisitIn, Crowded, Least}
-use Rattle.net.specs.Finish.{plain}
+use Rattle.net.specs.Scrambling.{plain}
 use Rattle.net.specs.Shape.{determinant, Passes}
-use Rattle.net.specs.Check.{First, FirstZero}
+use Rattle.net.specs.Check.{FirstCrowded, FirstZero}
 use Rattle.net.specs.Run.{visit, visits, run, hits}
 use Rattle.net.specs.Standard.{binomial}
 use Rattle.ranges.specs.Walk.{Walk, answers, given}
 use Rattle.ranges.specs.Theorem.{Walked, WalkedByHand}
 use Rattle.refusal.specs.Outcome.{accepted, not-net}
 use Rattle.plan.specs.declared.pair.Plan.{Plan}
-use Rattle.plan.specs.declared.pair.Shift.{Shift}
+use Rattle.plan.specs.declared.points.Shift.{Shift}
 use Rattle.plan.specs.Pair.{generators, sequence, standard-pair, largest-level, Level, loaded}
 use Rattle.plan.specs.Fill.{fill-outcome, filled}
-use Rattle.plan.specs.Range.{index-bits, last-index}
+use Rattle.word.specs.Index.{index-bits, index-count, last-index}
 use Rattle.plan.specs.Walk.{open-outcome}
-use Rattle.plan.specs.Lists.{pointed, held, walked}
+use Rattle.plan.specs.Lists.{pointed, held, visits-walked}
 use Rattle.stratify.specs.Answers.{ShiftFits, Cell, check-outcome, query-outcome}
 
--- ---- 1, 2: one visit in every cell of every shape, and its relation to the plain run
+-- ---- 1: one visit in every cell of every shape
+
+-- column c and row r of block k: exactly one visit, which the query finds, and one visit in what point calls, a fill and the steps of a
+-- walk give for the block
+pub record VisitedOnce (P : Plan) (s : Shift) (m a k c r : ℕ) : Type 0 where
+  pub one-visit : One (VisitIn (sequence P s) m a k c r)
+  pub query : (level : ℕ) → Level level → m ≤ level → query-outcome P s level m a k c r ≡ accepted (one-visit .0)
+  pub points : hits (sequence P s) m a c r (pointed (sequence P s) (k * 2 ^ m) (2 ^ m)) ≡ 1
+  pub fills : (xs ys : List ℕ) → fill-outcome index-count (k * 2 ^ m) xs ys ≡ accepted tt → 2 ^ m ≤ length xs
+      → hits (sequence P s) m a c r (take (2 ^ m) (held (k * 2 ^ m) (filled index-count (sequence P s) (k * 2 ^ m) xs ys))) ≡ 1
+  pub walks : (count n : ℕ) (w : Walk) → open-outcome index-count (k * 2 ^ m) count ≡ accepted w → 2 ^ m ≤ count → 2 ^ m ≤ n
+      → hits (sequence P s) m a c r (take (2 ^ m) (visits-walked (sequence P s) n w)) ≡ 1
+
+-- what passing level M is worth: this holds under every shift, in every shape of a size from 0 to M, every cell and every block
+abbrev pub Covered : Plan → ℕ → Type 0
+Covered P M = (s : Shift) → ShiftFits s → (m a k c r : ℕ) → Cell M m a k c r → VisitedOnce P s m a k c r
+
+-- ---- 2: the relation of that visit to the plain run
 
 -- with u and v the column and row of the block's first visit: p is the plain run's index for column c exclusive or u and row r
 -- exclusive or v, the block's index for c and r is its first plus p, and that is what the query answers
-pub record Related (P : Plan) (s : Shift) (m a k c r p : ℕ) : Type 0 where
+pub record PlainRelation (P : Plan) (s : Shift) (m a k c r p : ℕ) : Type 0 where
   pub plain-visit : Only (VisitIn (plain (generators P)) m a 0
       (bitXor c (column (sequence P s) a (k * 2 ^ m))) (bitXor r (row (sequence P s) (m - a) (k * 2 ^ m)))) p
   pub block-visit : Only (VisitIn (sequence P s) m a k c r) (k * 2 ^ m + p)
   pub answer : (level : ℕ) → Level level → m ≤ level → query-outcome P s level m a k c r ≡ accepted (k * 2 ^ m + p)
 
--- column c and row r of block k: exactly one visit, its relation to the plain run, and one visit in what point calls, a fill and the
--- steps of a walk give for the block
-pub record VisitedOnce (P : Plan) (s : Shift) (m a k c r : ℕ) : Type 0 where
-  pub one-visit : One (VisitIn (sequence P s) m a k c r)
-  pub relation : (p : ℕ) × Related P s m a k c r p
-  pub points : hits (sequence P s) m a c r (pointed (sequence P s) (k * 2 ^ m) (2 ^ m)) ≡ 1
-  pub fills : (xs ys : List ℕ) → fill-outcome (k * 2 ^ m) xs ys ≡ accepted tt → 2 ^ m ≤ length xs
-      → hits (sequence P s) m a c r (take (2 ^ m) (held (k * 2 ^ m) (filled (sequence P s) (k * 2 ^ m) xs ys))) ≡ 1
-  pub walks : (count n : ℕ) (w : Walk) → open-outcome (k * 2 ^ m) count ≡ accepted w → 2 ^ m ≤ count → 2 ^ m ≤ n
-      → hits (sequence P s) m a c r (take (2 ^ m) (walked (sequence P s) n w)) ≡ 1
-
--- what passing level M is worth: this holds under every shift, in every shape of a size from 0 to M, every cell and every block
-abbrev pub Covered : Plan → ℕ → Type 0
-Covered P M = (s : Shift) → ShiftFits s → (m a k c r : ℕ) → Cell M m a k c r → VisitedOnce P s m a k c r
+-- of a plan that passes level M: in all the cells and blocks that `Covered` speaks of
+abbrev pub RelatedToPlain : Plan → ℕ → Type 0
+RelatedToPlain P M = (s : Shift) → ShiftFits s → (m a k c r : ℕ) → Cell M m a k c r → (p : ℕ) × PlainRelation P s m a k c r p
 
 -- ---- 3: the query of any plan, checked or not
 
@@ -76,7 +82,7 @@ pub record Checked (words : List ℕ) (level : ℕ) : Type 0 where
   pub crowded-iff : ((m : ℕ) × (a : ℕ) × (j : ℕ) × (check-outcome words level ≡ not-net m a j))
       ↔ ((m : ℕ) × (a : ℕ) × (m ≤ level) × (a ≤ m) × Crowded (plain (generators (loaded words))) m a)
   pub refusal-iff : (m a j : ℕ) → (check-outcome words level ≡ not-net m a j)
-      ↔ (First (generators (loaded words)) level m a × Least (plain (generators (loaded words))) m a j)
+      ↔ (FirstCrowded (generators (loaded words)) level m a × Least (plain (generators (loaded words))) m a j)
   pub refusal-even-iff : (m a j : ℕ) → (check-outcome words level ≡ not-net m a j)
       ↔ (FirstZero (generators (loaded words)) level m a × Least (plain (generators (loaded words))) m a j)
 
@@ -86,14 +92,14 @@ pub record Checked (words : List ℕ) (level : ℕ) : Type 0 where
 -- the list of n steps, steps after the end included; and what the last walk holds (`Walked`). Also for walks made by hand.
 pub record Lists (P : Plan) (s : Shift) : Type 0 where
   pub points : (start n : ℕ) → pointed (sequence P s) start n ≡ visits (sequence P s) start n
-  pub fills : (start : ℕ) (xs ys : List ℕ) → fill-outcome start xs ys ≡ accepted tt
-      → held start (filled (sequence P s) start xs ys) ≡ visits (sequence P s) start (length xs)
-  pub opened : (start count : ℕ) (w : Walk) → open-outcome start count ≡ accepted w → w ≡ record { next = start; left = count }
-  pub steps : (start count : ℕ) (w : Walk) → open-outcome start count ≡ accepted w
+  pub fills : (start : ℕ) (xs ys : List ℕ) → fill-outcome index-count start xs ys ≡ accepted tt
+      → held start (filled index-count (sequence P s) start xs ys) ≡ visits (sequence P s) start (length xs)
+  pub opened : (start count : ℕ) (w : Walk) → open-outcome index-count start count ≡ accepted w → w ≡ record { next = start; left = count }
+  pub steps : (start count : ℕ) (w : Walk) → open-outcome index-count start count ≡ accepted w
       → (n : ℕ) → answers (visit (sequence P s)) last-index n w ≡ given (visit (sequence P s)) n start count
-  pub walks : (start count : ℕ) (w : Walk) → open-outcome start count ≡ accepted w
-      → (n : ℕ) → walked (sequence P s) n w ≡ visits (sequence P s) start (min n count)
-  pub last-walk : (start count : ℕ) (w : Walk) → open-outcome start count ≡ accepted w → start ≤ last-index
+  pub walks : (start count : ℕ) (w : Walk) → open-outcome index-count start count ≡ accepted w
+      → (n : ℕ) → visits-walked (sequence P s) n w ≡ visits (sequence P s) start (min n count)
+  pub last-walk : (start count : ℕ) (w : Walk) → open-outcome index-count start count ≡ accepted w → start ≤ last-index
       → (n : ℕ) → Walked (visit (sequence P s)) last-index start count n
   pub by-hand : (w : Walk) (n : ℕ) → WalkedByHand (visit (sequence P s)) last-index w n
 
@@ -101,10 +107,10 @@ pub record Lists (P : Plan) (s : Shift) : Type 0 where
 -- a walk opened at its first index gives the run, as far as it goes into the block.
 pub record GivesRun (P : Plan) (s : Shift) (m k : ℕ) : Type 0 where
   pub points : pointed (sequence P s) (k * 2 ^ m) (2 ^ m) ≡ run (sequence P s) m k
-  pub fills : (p : ℕ) (xs ys : List ℕ) → fill-outcome (k * 2 ^ m + p) xs ys ≡ accepted tt
-      → take (2 ^ m - p) (held (k * 2 ^ m + p) (filled (sequence P s) (k * 2 ^ m + p) xs ys)) ≡ take (length xs) (drop p (run (sequence P s) m k))
-  pub walks : (count n : ℕ) (w : Walk) → open-outcome (k * 2 ^ m) count ≡ accepted w
-      → take (2 ^ m) (walked (sequence P s) n w) ≡ take (min n count) (run (sequence P s) m k)
+  pub fills : (p : ℕ) (xs ys : List ℕ) → fill-outcome index-count (k * 2 ^ m + p) xs ys ≡ accepted tt
+      → take (2 ^ m - p) (held (k * 2 ^ m + p) (filled index-count (sequence P s) (k * 2 ^ m + p) xs ys)) ≡ take (length xs) (drop p (run (sequence P s) m k))
+  pub walks : (count n : ℕ) (w : Walk) → open-outcome index-count (k * 2 ^ m) count ≡ accepted w
+      → take (2 ^ m) (visits-walked (sequence P s) n w) ≡ take (min n count) (run (sequence P s) m k)
 
 -- ---- the standard pair
 
@@ -115,10 +121,12 @@ pub record StandardPair : Type 0 where
   pub valid : Valid (generators standard-pair)
   pub passes : Passes (generators standard-pair) largest-level
   pub covered : Covered standard-pair largest-level
+  pub related : RelatedToPlain standard-pair largest-level
 
 pub record Theorems : Type 0 where
   -- of a plan whose columns are words (as the code's are)
   pub covered : {P : Plan} → Valid (generators P) → {M : ℕ} → M ≤ largest-level → Passes (generators P) M → Covered P M
+  pub related : {P : Plan} → Valid (generators P) → {M : ℕ} → M ≤ largest-level → Passes (generators P) M → RelatedToPlain P M
   pub queried : {P : Plan} → Valid (generators P) → {s : Shift} → ShiftFits s
       → {level m a k c r : ℕ} → Level level → Cell level m a k c r → Queried P s level m a k c r
   -- (01: for m 0 the answer is the number of the block)
@@ -127,6 +135,8 @@ pub record Theorems : Type 0 where
   -- of 64 words
   pub checked : (words : List ℕ) → Below (2 ^ 32) words → length words ≡ 64 → {level : ℕ} → Level level → Checked words level
   pub accepted-covered : (words : List ℕ) → Below (2 ^ 32) words → (M : ℕ) → check-outcome words M ≡ accepted tt → Covered (loaded words) M
+  pub accepted-related : (words : List ℕ) → Below (2 ^ 32) words → (M : ℕ) → check-outcome words M ≡ accepted tt
+      → RelatedToPlain (loaded words) M
   -- of any plan and shift; 01's plain run, both scramble words 0, is the run of `plain`
   pub unshifted : (P : Plan) → sequence P (record { x = 0; y = 0 }) ≡ plain (generators P)
   pub lists : (P : Plan) (s : Shift) → Lists P s

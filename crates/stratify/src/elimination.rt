@@ -14,7 +14,7 @@ use plan::Plan;
 // What an elimination finds: bad is 0 and index is the one whose image the word asked for is, or bad is the least index that shares the
 // cell of index 0.
 pub(crate) struct Elimination {
-    pub bad: u32,
+    pub kernel: u32,
     pub index: u32,
 }
 
@@ -82,7 +82,7 @@ fn clear(words: &mut [u32], indexes: &mut [u32], c: usize, n: usize, by: u32, al
 // The columns of the shape (m, a) one after the other, and the index for a word.
 pub(crate) fn eliminate(plan: Plan, m: u32, a: u32, asked: u32) -> Elimination
     requires { ⌜ Shape (generators plan) m a ⌝ }
-    ensures { λ r. ⌜ Eliminates (generators plan) m a asked (r .bad) (r .index) ⌝ }
+    ensures { λ r. ⌜ Eliminates (generators plan) m a asked (r .kernel) (r .index) ⌝ }
 {
     let n = m as usize;
     let mut words = [0u32; 40];
@@ -96,7 +96,7 @@ pub(crate) fn eliminate(plan: Plan, m: u32, a: u32, asked: u32) -> Elimination
         let index = indexes[c];
         if word == 0 {
             return Elimination {
-                bad: index,
+                kernel: index,
                 index: 0,
             };
         }
@@ -104,7 +104,7 @@ pub(crate) fn eliminate(plan: Plan, m: u32, a: u32, asked: u32) -> Elimination
         c += 1;
     }
     Elimination {
-        bad: 0,
+        kernel: 0,
         index: indexes[n],
     }
 }

@@ -1,12 +1,11 @@
 // The check of generator matrices and the query of a cell, over one elimination. Both public functions are total: no `requires`,
 // no trap, and every answer promised, refused ones too.
 mod bits;
-mod cells;
+mod checks;
 mod elimination;
-mod minors;
-mod shapes;
+mod queries;
 
-pub use cells::Block;
-pub use cells::Located;
-pub use cells::query;
-pub use shapes::check;
+pub use checks::check;
+pub use queries::Block;
+pub use queries::Located;
+pub use queries::query;

@@ -5,17 +5,19 @@ use mathlib.Core.List.{List}
 use Prim.Native.Nat.{ℕ, zero, suc, _+_, _*_, _/_, _%_, _^_, _≤_, _<_}
 use native.Mathlib.Nat.{div-add-mod', mod-lt, mod-self, mod-eq-of-lt, div-lt-iff-lt-mul, one-mul, pow-zero, pow-suc}
 use native.Mathlib.Omega.{arith}
-use lib.Count.{under}
+use lib.Count.{trailingZeros, under}
 use lib.ListN.{getD}
 use Rattle.digits.specs.Digits.{plus}
 use native.Mathlib.Numerals.{add-one}
 use Rattle.digits.proofs.Digit.{pow-one, join-lt}
 use Rattle.digits.proofs.Remainder.{join-high, join-low}
 use Rattle.digits.proofs.Arithmetic.{plus-comm, plus-zero, plus-step, plus-split}
+use Rattle.digits.proofs.Two.{one-lt-two}
 use Rattle.ranges.proofs.Order.{lt-or-ge}
 use Rattle.net.specs.Generators.{product}
 use Rattle.net.proofs.Choice.{lowest}
 use Rattle.net.proofs.Product.{product-plus, product-pow}
+use Rattle.net.proofs.Two.{trailing-zeros-lowest}
 use Rattle.word.specs.Prefix.{ones}
 
 -- the parts of q * b + r
@@ -120,3 +122,7 @@ module _ {b : ℕ} (big : 1 < b) where
   pub product-next : (C : List ℕ) (w i : ℕ) → suc i < b ^ w
       → product b C (suc i) ≡ plus b (product b C i) (product b C (ones b (suc (lowest b w (suc i)))))
   product-next C w i h = ap (product b C) (sym (carry w i h)) ∙ product-plus big C i (ones b (suc (lowest b w (suc i))))
+
+-- a number of 32 bits other than 0 has fewer than 32 trailing zeros
+pub trailing-zeros-below : (n : ℕ) → 0 < n → n < 2 ^ 32 → trailingZeros 32 n < 32
+trailing-zeros-below n some fits = rw (trailing-zeros-lowest 32 n) (lowest-lt one-lt-two 32 n (λ e. omega (arith, e, some)) fits)

@@ -1,8 +1,11 @@
-// A copy of words from one slice to another.
+// Words copied from one slice to another, and into the columns of a generator matrix.
+use crate::COLUMNS;
+use crate::Columns;
 ghost use mathlib.Core.Path.{_≡_};
+ghost use Prim.Native.Nat.{min};
 ghost use lib.ListN.{length};
 ghost use lib.Seq.{paste};
-ghost use Prim.Native.Nat.{min};
+ghost use Rattle.word.specs.Matrices.{columns-held};
 
 // The length of the shorter of two slices.
 fn shorter(a: usize, b: usize) -> usize
@@ -22,4 +25,13 @@ pub fn copy(from: &[u32], to: &mut [u32])
         to[i] = from[i];
         i += 1;
     }
+}
+
+// The columns that words hold, column 0 first. Columns that the words lack are 0, and words beyond the last column are left out.
+pub fn columns(words: &[u32]) -> Columns
+    ensures { λ r. ⌜ r ≡ columns-held (now (words .entry)) ⌝ }
+{
+    let mut own = [0u32; COLUMNS];
+    copy(words, &mut own);
+    own
 }

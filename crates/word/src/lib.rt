@@ -9,6 +9,7 @@ mod standard;
 mod sums;
 mod triangle;
 
+pub use copies::columns;
 pub use copies::copy;
 pub use indexes::COLUMNS;
 pub use indexes::Columns;

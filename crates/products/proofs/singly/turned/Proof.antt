@@ -1,7 +1,7 @@
 -- `plan::fills::turned` meets its contract: a number other than 0 has a lowest bit. Assumes nothing.
 use mathlib.Core.Path.{refl}
 use lib.Count.{trailing-le}
-use Rattle.products.proofs.Consecutive.{turns-below}
+use Rattle.word.proofs.Prefix.{trailing-zeros-below}
 use native.Mathlib.Omega.{arith}
 use Rattle.products.proofs.singly.turned.Statement.{statement}
 use Rattle.products.proofs.singly.turned.Tie as tie
@@ -10,7 +10,7 @@ cast-result : tie.Need-cast-result
 cast-result c = let l = trailing-le 32 (c .args .at) in record { fits = omega arith }
 
 returns : tie.Need-returns
-returns c = (refl, turns-below (c .args .at) (c .pre) (c .fits .at .fits))
+returns c = (refl, trailing-zeros-below (c .args .at) (c .pre) (c .fits .at .fits))
 
 pub turned-spec : {M : Type 1} → statement M
 turned-spec = tie.close (tie.spec cast-result returns)

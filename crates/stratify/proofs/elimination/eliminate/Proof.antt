@@ -4,7 +4,7 @@ use Prim.Native.Nat.{ℕ, _-_, _≤_}
 use native.Mathlib.Omega.{arith}
 use borrow.Author.Needs.{needs}
 use lib.ListN.{getD, set, length-set}
-use Rattle.net.specs.Finish.{plain}
+use Rattle.net.specs.Scrambling.{plain}
 use Rattle.net.specs.Elimination.{Additive, interval}
 use Rattle.net.proofs.Interval.{interval-additive}
 use Rattle.plan.specs.Pair.{generators}

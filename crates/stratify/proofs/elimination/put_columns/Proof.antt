@@ -3,11 +3,12 @@ use mathlib.Core.Path.{_≡_, sym, ap₂, _∙_}
 use Prim.Native.Nat.{ℕ, _+_, _-_, _*_, _^_, _≤_}
 use native.Mathlib.Omega.{arith}
 use lib.Pow.{pow-mono}
-use Rattle.net.specs.Finish.{plain}
+use Rattle.net.specs.Scrambling.{plain}
 use Rattle.net.specs.Elimination.{interval}
 use Rattle.net.proofs.Interval.{interval-lt}
 use Rattle.word.proofs.Turn.{one-shifted}
-use Rattle.plan.specs.Pair.{pair, generators}
+use Rattle.word.specs.Matrices.{pair}
+use Rattle.plan.specs.Pair.{generators}
 use Rattle.stratify.proofs.Refinement.{interval-at}
 use Rattle.stratify.proofs.Clearing.{Putting, putting-none, putting-more}
 use Rattle.stratify.proofs.elimination.put_columns.Statement.{statement}

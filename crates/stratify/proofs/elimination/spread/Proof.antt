@@ -2,13 +2,13 @@
 use Prim.Native.Nat.{_<_}
 use native.Mathlib.Omega.{arith}
 use lib.Count.{trailingZeros}
-use Rattle.plan.proofs.Groups.{turns-below}
+use Rattle.word.proofs.Prefix.{trailing-zeros-below}
 use Rattle.stratify.proofs.Clearing.{spread-none, spread-all}
 use Rattle.stratify.proofs.elimination.spread.Statement.{statement}
 use Rattle.stratify.proofs.elimination.spread.Tie as tie
 
 within : (s : tie.Start) → trailingZeros 32 (s .args .by) < 32
-within s = let ne = s .pre in turns-below (s .args .by) (omega (arith, ne)) (s .fits .by .fits)
+within s = let ne = s .pre in trailing-zeros-below (s .args .by) (omega (arith, ne)) (s .fits .by .fits)
 
 shl-if1 : tie.Need-shl-if1
 shl-if1 c = within c

@@ -5,7 +5,7 @@ use mathlib.Core.List.{map}
 use Prim.Native.Nat.{_+_, _*_, _%_, _-_, _≤_}
 use native.Mathlib.Omega.{arith}
 use borrow.Author.Needs.{needs}
-use Rattle.digits.specs.Digits.{number, reversed}
+use Rattle.digits.specs.Digits.{from-digits, reversed}
 use Rattle.digits.proofs.Two.{one-lt-two}
 use Rattle.ranges.specs.Range.{range}
 use Rattle.word.proofs.Table.{Split, split-none, table-lt, split-more, sum-lt}
@@ -19,7 +19,7 @@ abbrev μ-loop : tie.MeasureT-loop
 μ-loop word table sum₀ rest₀ k₀ sum rest k = 4 - k
 
 loop-holds : tie.Need-loop-holds Inv-loop μ-loop
-unfolding number reversed range
+unfolding from-digits reversed range
 loop-holds c = (omega arith, refl, split-none one-lt-two (c .args .word))
 
 mul-sum : tie.Need-mul-sum Inv-loop μ-loop

@@ -3,7 +3,7 @@ use mathlib.Core.Path.{_≡_, _∙_}
 use Prim.Native.Nat.{ℕ, suc, _/_, _-_, _≤_}
 use native.Mathlib.Omega.{arith}
 use lib.Bits.{bitXor}
-use Rattle.digits.specs.Digits.{number}
+use Rattle.digits.specs.Digits.{from-digits}
 use Rattle.digits.proofs.Two.{one-lt-two, plus-two}
 use Rattle.net.specs.Standard.{binomial, pascal-column}
 use Rattle.net.proofs.Columns.{pascal-step}
@@ -18,7 +18,7 @@ abbrev μ-loop : tie.MeasureT-loop
 μ-loop columns₀ word₀ c₀ columns word c = 32 - c
 
 loop-holds : tie.Need-loop-holds Inv-loop μ-loop
-unfolding pascal-column number binomial
+unfolding pascal-column from-digits binomial
 loop-holds c = (omega arith, running-none)
 
 mul-columns : tie.Need-mul-columns Inv-loop μ-loop

@@ -1,17 +1,23 @@
--- `plan::pair::Plan::point` meets its contract. Assumes nothing.
+-- `Plan::point`: the products, and what follows them.
+use mathlib.Core.Path.{ap, _∙_}
 use borrow.Author.Needs.{needs}
+use Rattle.net.specs.Scrambling.{scrambled-point}
+use Rattle.plan.specs.Pair.{scrambling}
 use Rattle.plan.proofs.Laws.{both}
 use Rattle.plan.proofs.pair.Plan.point.Statement.{statement}
 use Rattle.plan.proofs.pair.Plan.point.Tie as tie
 
-coordinate-requires : tie.Need-coordinate-requires
-coordinate-requires c κs = search needs
+product-requires : tie.Need-product-requires
+product-requires c κs = search needs
 
-coordinate-requires-2 : tie.Need-coordinate-requires-2
-coordinate-requires-2 c κs = search needs
+product-requires-2 : tie.Need-product-requires-2
+product-requires-2 c κs = search needs
+
+scramble-requires : tie.Need-scramble-requires
+scramble-requires c κs = search needs
 
 returns : tie.Need-returns
-returns c = both (c .before .coordinate .ensures) (c .coordinate2 .ensures)
+returns c = c .scramble .ensures ∙ ap (scrambled-point (scrambling (c .before .before .before .before .before .args .shift))) (both (c .before .before .product .ensures) (c .before .product2 .ensures))
 
 pub point-spec : {M : Type 1} → statement M
-point-spec = tie.close (tie.spec coordinate-requires coordinate-requires-2 returns)
+point-spec = tie.close (tie.spec product-requires product-requires-2 scramble-requires returns)

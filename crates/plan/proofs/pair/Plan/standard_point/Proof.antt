@@ -1,5 +1,8 @@
--- `plan::pair::Plan::standard_point` meets its contract. Assumes nothing.
+-- `Plan::standard_point`: the products, and what follows them.
+use mathlib.Core.Path.{ap, _∙_}
 use borrow.Author.Needs.{needs}
+use Rattle.net.specs.Scrambling.{scrambled-point}
+use Rattle.plan.specs.Pair.{scrambling}
 use Rattle.plan.proofs.Laws.{both}
 use Rattle.plan.proofs.pair.Plan.standard_point.Statement.{statement}
 use Rattle.plan.proofs.pair.Plan.standard_point.Tie as tie
@@ -10,8 +13,11 @@ standard-x-requires c κs = search needs
 standard-y-requires : tie.Need-standard-y-requires
 standard-y-requires c κs = search needs
 
+scramble-requires : tie.Need-scramble-requires
+scramble-requires c κs = search needs
+
 returns : tie.Need-returns
-returns c = both (c .before .standard-x .ensures) (c .standard-y .ensures)
+returns c = c .scramble .ensures ∙ ap (scrambled-point (scrambling (c .before .before .before .args .shift))) (both (c .before .before .standard-x .ensures) (c .before .standard-y .ensures))
 
 pub standard-point-spec : {M : Type 1} → statement M
-standard-point-spec = tie.close (tie.spec standard-x-requires standard-y-requires returns)
+standard-point-spec = tie.close (tie.spec standard-x-requires standard-y-requires scramble-requires returns)

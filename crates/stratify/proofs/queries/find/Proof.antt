@@ -1,0 +1,73 @@
+-- `stratify::cells::find` meets its contract: the least j, or the only index of the block in the cell. Assumes nothing.
+use mathlib.Core.Path.{_≡_, sym, ap, subst}
+use Prim.Native.Nat.{ℕ, _+_, _*_, _^_}
+use native.Mathlib.Omega.{arith}
+use Rattle.digits.proofs.Two.{one-lt-two}
+use Rattle.ranges.specs.Unique.{Only}
+use Rattle.linear.proofs.Prime.{two}
+use Rattle.net.specs.Sequence.{VisitIn}
+use Rattle.net.specs.Shape.{Shape}
+use Rattle.net.proofs.Interval.{block-lt}
+use Rattle.net.proofs.Query.{locate-found, locate-no-net}
+use Rattle.plan.specs.Pair.{generators, scrambling, sequence}
+use Rattle.stratify.specs.Answers.{of-location}
+use Rattle.stratify.proofs.Cell.{answer}
+use Rattle.stratify.proofs.queries.find.Statement.{statement}
+use Rattle.stratify.proofs.queries.find.Tie as tie
+
+shape : (s : tie.Start) → Shape (generators (s .args .plan)) (s .args .m) (s .args .a)
+shape s = record { valid = s .pre .0; wide = s .pre .2 .wide; fits = s .pre .2 .size }
+
+-- an index of the block lies in the cell
+abbrev Lies : tie.Start → ℕ → Type 0
+Lies s i = let a = s .args in VisitIn (sequence (a .plan) (a .shift)) (a .m) (a .a) (a .block) (a .column) (a .row) i
+
+no-kernel : (c : tie.Else1) → c .before .eliminate .result .kernel ≡ 0
+no-kernel c = omega arith
+
+-- the index that comes along with the plain cell is the basis's answer for it
+only : (c : tie.Else1) → let s = c .before .before .before in Only (Lies s) (s .args .block * 2 ^ s .args .m + c .before .eliminate .result .index)
+only c =
+    let s = c .before .before .before in
+    let a = s .args in
+    let q = s .pre .2 in
+    let cell = c .before .before .plain-cell in
+    let e = c .before .eliminate in
+    let f = e .ensures .found (no-kernel c) in
+    answer (shape s) (a .shift .x) (a .shift .y) (s .pre .1 .x) (s .pre .1 .y) (a .block) (a .column) (a .row) (q .column) (q .row)
+    (f .0) (cell .result) (e .result .index) (f .1) (cell .ensures) (f .2)
+
+plain-cell-requires : tie.Need-plain-cell-requires
+plain-cell-requires c κs = c .pre
+
+eliminate-requires : tie.Need-eliminate-requires
+eliminate-requires c κs = shape (c .before)
+
+returns : tie.Need-returns
+returns c =
+    let s = c .before .before .before in
+    let a = s .args in
+    let e = c .before .eliminate in
+    sym (ap (of-location (a .m) (a .a))
+    (locate-no-net (generators (a .plan)) (scrambling (a .shift)) (a .m) (a .a) (a .block) (a .column) (a .row) (shape s) two
+    (e .result .kernel) (e .ensures .least (c .if1 .taken))))
+
+join-requires : tie.Need-join-requires
+join-requires c κs =
+    let s = c .before .before .before in
+    let q = s .pre .2 in
+    let below = only c .holds .in-block .below in
+    (q .size, block-lt one-lt-two 32 (s .args .m) (s .args .block) (c .before .eliminate .result .index) (q .size) (q .block) (omega arith))
+
+returns-2 : tie.Need-returns-2
+returns-2 c =
+    let d = c .before in
+    let s = d .before .before .before in
+    let a = s .args in
+    let odd = d .before .eliminate .ensures .found (no-kernel d) .1 .nonzero in
+    sym (ap (of-location (a .m) (a .a))
+    (locate-found (generators (a .plan)) (scrambling (a .shift)) (a .m) (a .a) (a .block) (a .column) (a .row)
+    (c .join .result) odd (subst (Only (Lies s)) (sym (c .join .ensures)) (only d))))
+
+pub find-spec : {M : Type 1} → statement M
+find-spec = tie.close (tie.spec plain-cell-requires eliminate-requires returns join-requires returns-2)
