@@ -7,7 +7,7 @@ use lib.Ieee.{binary32, toBits}
 use Rattle.net.specs.Sequence.{point}
 use Rattle.refusal.specs.Outcome.{accepted, not-net}
 use Rattle.plan.specs.declared.pair.Plan.{Plan}
-use Rattle.plan.specs.declared.pair.Shift.{Shift}
+use Rattle.plan.specs.declared.points.Shift.{Shift}
 use Rattle.plan.specs.Pair.{sequence, standard-pair, largest-level}
 use Rattle.stratify.specs.Answers.{check-outcome, query-outcome}
 use Rattle.unit.specs.Word.{single}

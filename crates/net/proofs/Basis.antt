@@ -16,7 +16,7 @@ use Rattle.net.proofs.Scrambling.{unshifted}
 use Rattle.net.proofs.Interval.{interval-additive, interval-lt, interval-of-share, share-of-interval, interval-zero}
 use Rattle.net.proofs.Shape.{apart-iff}
 use Rattle.net.proofs.Net.{stratified}
-use Rattle.net.proofs.Check.{crowded-of-least, zero-of-crowded}
+use Rattle.net.proofs.Least.{crowded-of-least, zero-of-crowded}
 use Rattle.net.proofs.Elimination.{Sound, eliminate-sound}
 
 module _ {G : Generators} {m a : ℕ} (shape : Shape G m a) (prime : Prime (G .b)) where

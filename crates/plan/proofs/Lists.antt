@@ -52,14 +52,15 @@ module _ (n start count : ℕ) (w : Walk) (accepts : open-outcome n start count 
   pub within : start + count ≤ n
   within = ltb-false n (start + count) (passed .0)
 
-module _ (S : Sequence) (start count : ℕ) (w : Walk) (accepts : open-outcome index-count start count ≡ accepted w) (n : ℕ) where
-  pub steps : answers (visit S) last-index n w ≡ given (visit S) n start count
-  steps =
-      ap (answers (visit S) last-index n) (opened index-count start count w accepts)
-      ∙ list-within (visit S) last-index start count n (within index-count start count w accepts)
+module _ (start count : ℕ) (w : Walk) (accepts : open-outcome index-count start count ≡ accepted w) (n : ℕ) where
+  pub steps : {A : Type 0} (visit-of : ℕ → A) → answers visit-of last-index n w ≡ given visit-of n start count
+  steps visit-of =
+      ap (answers visit-of last-index n) (opened index-count start count w accepts)
+      ∙ list-within visit-of last-index start count n (within index-count start count w accepts)
 
-  pub walk-visits : visits-walked S n w ≡ visits S start (min n count)
-  walk-visits = ap visits-given steps ∙ visits-given-is (visit S) n start count
+  module _ (S : Sequence) where
+    pub walk-visits : visits-walked S n w ≡ visits S start (min n count)
+    walk-visits = ap visits-given (steps (visit S)) ∙ visits-given-is (visit S) n start count
 
-  pub last-walk : start ≤ last-index → Walked (visit S) last-index start count n
-  last-walk from = ranges.walked (visit S) last-index start count n from (within index-count start count w accepts)
+    pub last-walk : start ≤ last-index → Walked (visit S) last-index start count n
+    last-walk from = ranges.walked (visit S) last-index start count n from (within index-count start count w accepts)

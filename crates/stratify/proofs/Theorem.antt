@@ -21,11 +21,12 @@ use Rattle.net.specs.Check.{check}
 use Rattle.net.specs.Query.{locate}
 use Rattle.net.specs.Net.{Net}
 use Rattle.net.specs.Answers.{Located, CheckDecides}
-use Rattle.net.specs.Run.{Visit, visits, run, hits}
+use Rattle.net.specs.Run.{Visit, visit, visits, run, hits}
 use Rattle.net.specs.Standard.{standard}
 use Rattle.ranges.proofs.Below.{below-take, below-drop}
 use Rattle.net.proofs.Scrambling.{shift-lawful}
-use Rattle.net.proofs.Check.{nonzero, least-index-least}
+use Rattle.net.proofs.Least.{least-index-least}
+use Rattle.net.proofs.Check.{nonzero}
 use Rattle.net.proofs.Query.{locate-found}
 use Rattle.ranges.proofs.Range.{take-each}
 use Rattle.ranges.proofs.Theorem as ranges
@@ -103,7 +104,7 @@ module _ {P : Plan} (valid : Valid (generators P)) {M : ℕ} (fits : M ≤ large
       query = answered (one-visit .0) (one-visit .1);
       points = one-hit;
       fills = λ xs ys e. hit-in _ (length xs) (filled-visits index-count S (k * 2 ^ m) xs ys e);
-      walks = λ count n w e long many. hit-in _ (min n count) (walk-visits S (k * 2 ^ m) count w e n) (omega arith);
+      walks = λ count n w e long many. hit-in _ (min n count) (walk-visits (k * 2 ^ m) count w e n S) (omega arith);
     }
 
   covered : Covered P M
@@ -181,9 +182,9 @@ lists P s = record {
   points = λ start n. refl;
   fills = filled-visits index-count (sequence P s);
   opened = opened index-count;
-  steps = steps (sequence P s);
-  walks = walk-visits (sequence P s);
-  last-walk = λ start count w e from n. last-walk (sequence P s) start count w e n from;
+  steps = λ start count w e n. steps start count w e n (visit (sequence P s));
+  walks = λ start count w e n. walk-visits start count w e n (sequence P s);
+  last-walk = λ start count w e from n. last-walk start count w e n (sequence P s) from;
   by-hand = ranges.theorems .walked-by-hand _ last-index;
 }
 

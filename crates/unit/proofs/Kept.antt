@@ -14,7 +14,7 @@ use lib.Ieee.Nearest.{div-same}
 use Rattle.ranges.proofs.Order.{lt-or-ge}
 use Rattle.net.specs.Sequence.{top}
 use Rattle.unit.specs.Quotient.{leading-digits, lower-single}
-use Rattle.unit.specs.Theorem.{Places, Shortfall, InStrip}
+use Rattle.unit.specs.Theorem.{WideEnough, Shortfall, InStrip}
 use Rattle.unit.proofs.Powers.{powers, three-powers, rescale}
 use Rattle.unit.proofs.Leading.{zeros-lt, digits-lt, digits-ge}
 use Rattle.unit.proofs.Patterns.{positive-bits, pattern}
@@ -61,10 +61,10 @@ scaled-whole L v z least most many below =
     together : (v a b c d : ℕ) → a * b * c ≡ d → v * a * b * c ≡ v * d
     together v a b c d e = omega (arith, ap (λ (x : ℕ). v * x) e)
 
-scaled : (L v z : ℕ) → Places L → z < L → Scaled L v z
-scaled L v z places below =
-    let least = places .at-least in
-    let most = places .at-most in
+scaled : (L v z : ℕ) → WideEnough L → z < L → Scaled L v z
+scaled L v z wide below =
+    let least = wide .at-least in
+    let most = wide .at-most in
     ⊎-elim (λ few. scaled-cut L v z most few) (λ many. scaled-whole L v z least most many below) (lt-or-ge z (L - 24))
 
 zero-value : (L : ℕ) → HasValue (lower-single L 0) false (kept L 0) (2 ^ L)
@@ -75,26 +75,26 @@ zero-value L =
     (refl, zero-mul (2 ^ L) ∙ sym (ap (λ (x : ℕ). x * 1) none))
 
 -- the exact value of the single
-pub single-value : {L : ℕ} → Places L → {v : ℕ} → v < 2 ^ L → HasValue (lower-single L v) false (kept L v) (2 ^ L)
-single-value {L} places {v} below = ⊎-elim none some (eq-zero-or-pos v)
+pub single-value : {L : ℕ} → WideEnough L → {v : ℕ} → v < 2 ^ L → HasValue (lower-single L v) false (kept L v) (2 ^ L)
+single-value {L} wide {v} below = ⊎-elim none some (eq-zero-or-pos v)
   where
     none : v ≡ 0 → HasValue (lower-single L v) false (kept L v) (2 ^ L)
     none e = subst (λ (x : ℕ). HasValue (lower-single L x) false (kept L x) (2 ^ L)) (sym e) (zero-value L)
 
     some : 0 < v → HasValue (lower-single L v) false (kept L v) (2 ^ L)
     some positive =
-        let least = places .at-least in
+        let least = wide .at-least in
         let z = leadingZeros L v in
         let t = leading-digits L v in
         let field = pattern (125 - z) t (omega arith) (digits-ge L v positive below least) (digits-lt L v positive below least) in
         subst (λ (x : Float). HasValue x false (kept L v) (2 ^ L)) (sym (ap (ofBits binary32) (positive-bits L v positive) ∙ field))
         (rescale (odd 24 false t (125 - z) 149) false (t * 2 ^ (125 - z)) (2 ^ 149) (kept L v) (2 ^ L) (pow-pos 149)
-        (scaled L v z places (zeros-lt L v positive below)) (odd-sign 24 false t (125 - z) 149))
+        (scaled L v z wide (zeros-lt L v positive below)) (odd-sign 24 false t (125 - z) 149))
 
-pub shortfall : {L : ℕ} → Places L → {v : ℕ} → v < 2 ^ L → Shortfall L v (lower-single L v)
-shortfall {L} places {v} below = record {
+pub shortfall : {L : ℕ} → WideEnough L → {v : ℕ} → v < 2 ^ L → Shortfall L v (lower-single L v)
+shortfall {L} wide {v} below = record {
   kept = kept L v;
-  value = single-value places below;
+  value = single-value wide below;
   not-above = div-mul-le-self v (2 ^ cut L v);
   short = λ few. subst (λ (k : ℕ). k < 2 ^ cut L v) (rest v (2 ^ cut L v)) (mod-lt v (pow-pos (cut L v)));
   whole = λ many. let none : cut L v ≡ 0 = omega arith in uncut v (cut L v) none;
@@ -122,8 +122,8 @@ kept-top L v n s few less =
     div-same (q * 2 ^ s * 2 ^ n) (2 ^ L) q (2 ^ r) (pow-pos L) (pow-pos r) same
     ∙ shr-shr v s r ∙ ap (λ (j : ℕ). v / 2 ^ j) (omega arith)
 
-pub strip : {L : ℕ} → Places L → {v : ℕ} → v < 2 ^ L → (n : ℕ) → n ≤ 24 → InStrip n (top 2 L n v) (lower-single L v)
-strip {L} places {v} below n few =
-    let least = places .at-least in
+pub strip : {L : ℕ} → WideEnough L → {v : ℕ} → v < 2 ^ L → (n : ℕ) → n ≤ 24 → InStrip n (top 2 L n v) (lower-single L v)
+strip {L} wide {v} below n few =
+    let least = wide .at-least in
     subst (λ (k : ℕ). InStrip n k (lower-single L v)) (kept-top L v n (cut L v) (omega arith) (omega arith))
-    (whole-part (lower-single L v) (kept L v) (2 ^ L) n (pow-pos L) (single-value places below))
+    (whole-part (lower-single L v) (kept L v) (2 ^ L) n (pow-pos L) (single-value wide below))

@@ -17,7 +17,7 @@ use lib.Ieee.Fits.{and-l, and-r, down-pos}
 use lib.Ieee.Order.{le-of-values}
 use Rattle.ranges.proofs.Order.{lt-or-ge}
 use Rattle.unit.specs.Quotient.{nearest-double, lower-bits, lower-single}
-use Rattle.unit.specs.Theorem.{Places, Largest}
+use Rattle.unit.specs.Theorem.{WideEnough, Largest}
 use Rattle.unit.proofs.Powers.{powers, three-powers}
 use Rattle.unit.proofs.Leading.{leading-le}
 use Rattle.unit.proofs.Doubles.{double-value}
@@ -137,12 +137,12 @@ none-between L v h (fin false m e) (fin s n g) (fin r k i) a b f t =
         (le-trans (mul-le-mul-right l h) (le-of-eq (mul-right-comm q d l ∙ ap (λ (x : ℕ). x * d) value ∙ mul-right-comm v c d))))
         positive
 
-pub single-largest : {L : ℕ} → Places L → {v : ℕ} → v < 2 ^ L → Largest binary32 (lower-single L v) (nearest-double L v)
-single-largest {L} places {v} below =
+pub single-largest : {L : ℕ} → WideEnough L → {v : ℕ} → v < 2 ^ L → Largest binary32 (lower-single L v) (nearest-double L v)
+single-largest {L} wide {v} below =
     let x = lower-single L v in
     let d = nearest-double L v in
-    let x-value = single-value places below in
-    let d-value = double-value (places .at-most) below in
+    let x-value = single-value wide below in
+    let d-value = double-value (wide .at-most) below in
     let less : kept L v * 2 ^ L ≤ v * 2 ^ L = mul-le-mul-right (2 ^ L) (div-mul-le-self v (2 ^ cut L v)) in
     record {
       held = ofBits-fits binary32 (lower-bits L v);

@@ -10,7 +10,7 @@ use Rattle.ranges.specs.Walk.{Walk, Answer, visited, ended, Stepped, step}
 use Rattle.ranges.proofs.Walk.{step-none, step-past, step-last, step-more}
 use Rattle.plan.specs.declared.walks.Step.{Step as StepCode}
 use Rattle.plan.specs.declared.walks.Stepped.{Stepped as SteppedCode}
-use Rattle.plan.specs.Range.{last-index}
+use Rattle.word.specs.Index.{last-index}
 use Rattle.plan.specs.Walk.{of-walk, of-step, of-stepped}
 use Rattle.unit.specs.declared.steps.SinglesVisit.{SinglesVisit}
 use Rattle.unit.specs.Singles.{singles-of, visit-singles}

@@ -11,7 +11,7 @@ use lib.Count.{leadingZeros}
 use lib.Ieee.{nan, inf, binary32, odd, ofFields, ofBits, toBits, nanBits}
 use lib.Ieee.Bits.{nanBits-above, nanBits-is, toBits-ofBits}
 use Rattle.unit.specs.Quotient.{leading-digits, lower-bits, lower-single}
-use Rattle.unit.specs.Theorem.{Places}
+use Rattle.unit.specs.Theorem.{WideEnough}
 use Rattle.unit.proofs.Leading.{zeros-lt, digits-lt, digits-ge}
 
 pub positive-bits : (L v : ℕ) → 0 < v → lower-bits L v ≡ (125 - leadingZeros L v) * 2 ^ 23 + leading-digits L v
@@ -20,12 +20,12 @@ positive-bits L v positive =
     ap (λ (b : Bool). cond b 0 ((125 - leadingZeros L v) * 2 ^ 23 + leading-digits L v)) (ne-eqb v 0 other)
 
 -- the exponent's field
-pub field-is : {L v : ℕ} → Places L → 0 < v → v < 2 ^ L → lower-bits L v / 2 ^ 23 ≡ 126 - leadingZeros L v
-field-is {L} {v} places positive below =
-    let most = places .at-most in
+pub field-is : {L v : ℕ} → WideEnough L → 0 < v → v < 2 ^ L → lower-bits L v / 2 ^ 23 ≡ 126 - leadingZeros L v
+field-is {L} {v} wide positive below =
+    let most = wide .at-most in
     let few = zeros-lt L v positive below in
-    let lo = digits-ge L v positive below (places .at-least) in
-    let hi = digits-lt L v positive below (places .at-least) in
+    let lo = digits-ge L v positive below (wide .at-least) in
+    let hi = digits-lt L v positive below (wide .at-least) in
     ap (λ (n : ℕ). n / 2 ^ 23) (positive-bits L v positive) ∙ carried (leadingZeros L v) (leading-digits L v) (omega arith) lo hi
   where
     carried : (z t : ℕ) → z ≤ 125 → 2 ^ 23 ≤ t → t < 2 ^ 24 → ((125 - z) * 2 ^ 23 + t) / 2 ^ 23 ≡ 126 - z

@@ -6,23 +6,18 @@ use lib.Dec.{lit<}
 use lib.Ieee.{fin, ofBits}
 use mathlib.Core.Bool.{false}
 use Rattle.net.specs.Sequence.{Sequence, top}
-use Rattle.ranges.specs.Walk.{Walk, answers, given}
-use Rattle.ranges.proofs.Walk.{list-within}
-use Rattle.refusal.specs.Outcome.{accepted}
-use Rattle.plan.specs.Range.{last-index}
-use Rattle.plan.specs.Walk.{open-outcome}
-use Rattle.plan.proofs.Lists.{opened, within}
+use Rattle.plan.proofs.Lists.{steps}
 use Rattle.unit.specs.Quotient.{nearest-double, lower-single}
-use Rattle.unit.specs.Word.{numerator, places, double, single}
+use Rattle.unit.specs.Word.{numerator, width, double, single}
 use Rattle.unit.specs.Singles.{visit-singles}
-use Rattle.unit.specs.Theorem.{Places, InStrip, Rounded, Theorems}
+use Rattle.unit.specs.Theorem.{WideEnough, InStrip, Rounded, Theorems}
 use Rattle.unit.proofs.Patterns.{field-is, bits-written}
 use Rattle.unit.proofs.Doubles.{double-value}
 use Rattle.unit.proofs.Kept as K
 use Rattle.unit.proofs.Largest.{single-largest}
-use Rattle.unit.proofs.Numerator.{enough-places, numerator-lt, numerator-top}
+use Rattle.unit.proofs.Numerator.{wide-enough, numerator-lt, numerator-top}
 
-quotients : {L : ℕ} → Places L → {v : ℕ} → v < 2 ^ L → Rounded L v (nearest-double L v) (lower-single L v)
+quotients : {L : ℕ} → WideEnough L → {v : ℕ} → v < 2 ^ L → Rounded L v (nearest-double L v) (lower-single L v)
 quotients enough below = record {
   exact = double-value (enough .at-most) below;
   largest = single-largest enough below;
@@ -30,8 +25,8 @@ quotients enough below = record {
   strip = K.strip enough below;
 }
 
-of-word : (w : ℕ) → w < 2 ^ 32 → Rounded places (numerator w) (double w) (single w)
-of-word w below = quotients enough-places (numerator-lt w below)
+of-word : (w : ℕ) → w < 2 ^ 32 → Rounded width (numerator w) (double w) (single w)
+of-word w below = quotients wide-enough (numerator-lt w below)
 
 strip : (w : ℕ) → w < 2 ^ 32 → (n : ℕ) → n ≤ 24 → InStrip n (top 2 32 n w) (single w)
 strip w below n few = subst (λ (k : ℕ). InStrip n k (single w)) (numerator-top w n few) (of-word w below .strip n few)
@@ -40,12 +35,6 @@ zero : single 0 ≡ fin false 0 (pos 0)
 unfolding ofBits
 zero = refl
 
-steps : (S : Sequence) (start count : ℕ) (w : Walk) → open-outcome start count ≡ accepted w
-    → (n : ℕ) → answers (visit-singles S) last-index n w ≡ given (visit-singles S) n start count
-steps S start count w accepts n =
-    ap (answers (visit-singles S) last-index n) (opened start count w accepts)
-    ∙ list-within (visit-singles S) last-index start count n (within start count w accepts)
-
 pub theorems : Theorems
 theorems = record {
   quotients = quotients;
@@ -53,9 +42,9 @@ theorems = record {
   largest = λ w below. of-word w below .largest;
   shortfall = λ w below. of-word w below .shortfall;
   strip = strip;
-  bits = λ w below. bits-written (enough-places .at-least) (numerator-lt w below);
-  field = λ w below positive. field-is enough-places positive (numerator-lt w below);
-  zero-bits = bits-written (enough-places .at-least) (numerator-lt 0 (lit< tt));
+  bits = λ w below. bits-written (wide-enough .at-least) (numerator-lt w below);
+  field = λ w below positive. field-is wide-enough positive (numerator-lt w below);
+  zero-bits = bits-written (wide-enough .at-least) (numerator-lt 0 (lit< tt));
   zero = zero;
-  steps = steps;
+  steps = λ S start count w accepts n. steps start count w accepts n (visit-singles S);
 }

@@ -5,7 +5,7 @@ use lib.Dec.{eqb}
 use lib.Count.{leadingZeros}
 use lib.Ieee.{Float, binary32, binary64, round, ofBits}
 
--- the double nearest to v / 2 ^ L; with at most 53 places it is that number itself (Theorem: `exact`)
+-- the double nearest to v / 2 ^ L; where L is at most 53 it is that number itself (Theorem: `exact`)
 abbrev pub nearest-double : ℕ → ℕ → Float
 nearest-double L v = round binary64 false v (2 ^ L)
 

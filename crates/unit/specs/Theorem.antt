@@ -11,14 +11,14 @@ use lib.Ieee.Exact.{HasValue}
 use Rattle.net.specs.Sequence.{Sequence, top}
 use Rattle.ranges.specs.Walk.{Walk, answers, given}
 use Rattle.refusal.specs.Outcome.{accepted}
-use Rattle.plan.specs.Range.{last-index}
+use Rattle.word.specs.Index.{index-count, last-index}
 use Rattle.plan.specs.Walk.{open-outcome}
 use Rattle.unit.specs.Quotient.{nearest-double, lower-single}
-use Rattle.unit.specs.Word.{numerator, places, double, single-bits, single}
+use Rattle.unit.specs.Word.{numerator, width, double, single-bits, single}
 use Rattle.unit.specs.Singles.{visit-singles}
 
--- enough places for the 24 digits of a single, and no more than the 53 of a double
-pub record Places (L : ℕ) : Type 0 where
+-- L digits are enough for the 24 of a single, and no more than the 53 of a double
+pub record WideEnough (L : ℕ) : Type 0 where
   pub at-least : 24 ≤ L
   pub at-most : L ≤ 53
 
@@ -54,18 +54,18 @@ pub record Rounded (L v : ℕ) (d x : Float) : Type 0 where
   pub strip : (n : ℕ) → n ≤ 24 → InStrip n (top 2 L n v) x
 
 pub record Theorems : Type 0 where
-  pub quotients : {L : ℕ} → Places L → {v : ℕ} → v < 2 ^ L → Rounded L v (nearest-double L v) (lower-single L v)
-  -- of every word w, whose exact value is numerator w / 2 ^ places: w / 2 ^ 32
-  pub exact : (w : ℕ) → w < 2 ^ 32 → HasValue (double w) false (numerator w) (2 ^ places)
+  pub quotients : {L : ℕ} → WideEnough L → {v : ℕ} → v < 2 ^ L → Rounded L v (nearest-double L v) (lower-single L v)
+  -- of every word w, whose exact value is numerator w / 2 ^ width: w / 2 ^ 32
+  pub exact : (w : ℕ) → w < 2 ^ 32 → HasValue (double w) false (numerator w) (2 ^ width)
   pub largest : (w : ℕ) → w < 2 ^ 32 → Largest binary32 (single w) (double w)
   -- (01: by less than 2 ^ (8 - z) parts in 2 ^ 32 where z < 8, and by none otherwise)
-  pub shortfall : (w : ℕ) → w < 2 ^ 32 → Shortfall places (numerator w) (single w)
+  pub shortfall : (w : ℕ) → w < 2 ^ 32 → Shortfall width (numerator w) (single w)
   pub strip : (w : ℕ) → w < 2 ^ 32 → (n : ℕ) → n ≤ 24 → InStrip n (top 2 32 n w) (single w)
   pub bits : (w : ℕ) → w < 2 ^ 32 → toBits binary32 (single w) ≡ single-bits w
-  pub field : (w : ℕ) → w < 2 ^ 32 → 0 < numerator w → single-bits w / 2 ^ 23 ≡ 126 - leadingZeros places (numerator w)
+  pub field : (w : ℕ) → w < 2 ^ 32 → 0 < numerator w → single-bits w / 2 ^ 23 ≡ 126 - leadingZeros width (numerator w)
   -- of the word 0: +0.0
   pub zero-bits : toBits binary32 (single 0) ≡ 0
   pub zero : single 0 ≡ fin false 0 (pos 0)
   -- ONE claim about the list of n steps with singles on a walk opened without refusal, steps after the end included
-  pub steps : (S : Sequence) (start count : ℕ) (w : Walk) → open-outcome start count ≡ accepted w
+  pub steps : (S : Sequence) (start count : ℕ) (w : Walk) → open-outcome index-count start count ≡ accepted w
       → (n : ℕ) → answers (visit-singles S) last-index n w ≡ given (visit-singles S) n start count

@@ -2,7 +2,7 @@
 ghost use mathlib.Core.Path.{_≡_};
 ghost use Rattle.unit.specs.Word.{double, single-bits, single, unit-number};
 
-// Which kind of number is wanted.
+// The kind of number that is asked for.
 pub enum Precision {
     Single,
     Double,
@@ -38,8 +38,11 @@ pub fn single(word: u32) -> f32
     f32::from_bits(single_bits(word))
 }
 
-// Its bits. The 24 leading digits of the word are kept, the others cut off. The first of them, which a single does not store, adds
-// one to the exponent's field.
+// The exponent's field of a single stands above its 23 stored digits.
+const FIELD: u32 = 8388608;
+
+// The bits of that single. The 24 leading digits of the word are kept and the others cut off. The first of them is a one, which a single
+// does not store: it adds one to the exponent's field.
 fn single_bits(word: u32) -> u32
     ensures { λ r. ⌜ r ≡ single-bits word ⌝ }
 {
@@ -49,5 +52,5 @@ fn single_bits(word: u32) -> u32
     let z = u32::leading_zeros(word);
     let moved = word << z;
     let kept = moved >> 8;
-    (125 - z) * 8388608 + kept
+    (125 - z) * FIELD + kept
 }

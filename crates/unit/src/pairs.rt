@@ -4,10 +4,10 @@ ghost use Rattle.net.specs.Sequence.{point};
 ghost use Rattle.plan.specs.Pair.{sequence, of-point};
 ghost use Rattle.unit.specs.Singles.{singles-of};
 use crate::single;
-use plan::Index;
 use plan::Plan;
 use plan::Point;
 use plan::Shift;
+use word::Index;
 
 // The two coordinates as singles.
 pub struct Singles {

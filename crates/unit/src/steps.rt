@@ -2,17 +2,17 @@
 ghost use mathlib.Core.Path.{_≡_};
 ghost use Rattle.ranges.specs.Walk.{step};
 ghost use Rattle.plan.specs.Pair.{sequence};
-ghost use Rattle.plan.specs.Range.{last-index};
+ghost use Rattle.word.specs.Index.{last-index};
 ghost use Rattle.plan.specs.Walk.{of-walk};
 ghost use Rattle.unit.specs.Singles.{visit-singles, of-singles-stepped};
 use crate::Singles;
 use crate::singles_of;
-use plan::Index;
 use plan::Plan;
 use plan::Point;
 use plan::Shift;
 use plan::Step;
 use plan::Walk;
+use word::Index;
 
 // An index with its point as singles.
 pub struct SinglesVisit {

@@ -4,7 +4,7 @@ use Prim.Native.Nat.{_+_, _-_, _*_, _≤_, _<_}
 use native.Mathlib.Omega.{arith}
 use Rattle.linear.proofs.Prime.{two}
 use Rattle.net.specs.Check.{NoneBefore}
-use Rattle.net.proofs.Check.{scan-next, scan-row, scan-all, scan-stops}
+use Rattle.net.proofs.Scan.{scan-next, scan-row, scan-all, scan-stops}
 use Rattle.plan.specs.Pair.{generators}
 use Rattle.stratify.specs.Answers.{of-verdict}
 use Rattle.stratify.proofs.checks.scan.Statement.{statement}
