@@ -36,7 +36,7 @@ exclusive-or = record { plus-is = T.plus-two; minus-is = T.minus-two }
 
 reversal : {b : ℕ} → 1 < b → Reversal b
 reversal big = record {
-  places = R.digit-reversed big;
+  digits = R.digit-reversed big;
   below = R.reversed-lt big;
   joined = R.reversed-join big;
   lowest = R.reversed-suc big;

@@ -1,11 +1,11 @@
--- Digits in base b, place 0 the lowest, and arithmetic digit by digit, without carries. Numbers have no width.
+-- Digits in base b, digit 0 the lowest, and arithmetic digit by digit, without carries. Numbers have no width.
 use Prim.Native.Nat.{ℕ, zero, suc, _+_, _-_, _*_, _/_, _%_, _^_}
 
--- the digit of n at place k
+-- digit k of n
 abbrev pub digit : ℕ → ℕ → ℕ → ℕ
 digit b k n = n / b ^ k % b
 
--- the number of w digits whose digit at place k is d k modulo b
+-- the number of w digits whose digit k is d k modulo b
 unfoldable pub from-digits : ℕ → ℕ → (ℕ → ℕ) → ℕ
 from-digits b zero d = 0
 from-digits b (suc w) d = from-digits b w (λ k. d (suc k)) * b + d 0 % b

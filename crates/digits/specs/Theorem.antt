@@ -12,7 +12,7 @@ pub record Determined (b : ℕ) : Type 0 where
   pub from-digits-digit : (w k : ℕ) (d : ℕ → ℕ) → k < w → digit b k (from-digits b w d) ≡ d k % b
   pub from-digits-below : (w : ℕ) (d : ℕ → ℕ) → from-digits b w d < b ^ w
 
--- what the three operations do at each place; with `Determined` this says all of them
+-- what the three operations do at each digit; with `Determined` this says all of them
 pub record DigitByDigit (b : ℕ) : Type 0 where
   pub plus-digit : (m n k : ℕ) → digit b k (plus b m n) ≡ (digit b k m + digit b k n) % b
   pub minus-digit : (m n k : ℕ) → digit b k (minus b m n) ≡ (digit b k m + (b - digit b k n)) % b
@@ -40,10 +40,10 @@ pub record ExclusiveOr : Type 0 where
   pub plus-is : (m n : ℕ) → plus 2 m n ≡ bitXor m n
   pub minus-is : (m n : ℕ) → minus 2 m n ≡ bitXor m n
 
--- The reversal, place by place, and its laws: of two parts that are joined, of one digit more at either end, twice, by the reversal
--- of more digits, and of a sum. Digits from place n on do not count.
+-- The reversal, digit by digit, and its laws: of two parts that are joined, of one digit more at either end, twice, by the reversal
+-- of more digits, and of a sum. Digits above the n lowest do not count.
 pub record Reversal (b : ℕ) : Type 0 where
-  pub places : (n i k : ℕ) → k < n → digit b k (reversed b n i) ≡ digit b (n - suc k) i
+  pub digits : (n i k : ℕ) → k < n → digit b k (reversed b n i) ≡ digit b (n - suc k) i
   pub below : (n i : ℕ) → reversed b n i < b ^ n
   pub joined : (m n k p : ℕ) → p < b ^ m → reversed b (m + n) (k * b ^ m + p) ≡ reversed b m p * b ^ n + reversed b n k
   pub lowest : (n i : ℕ) → reversed b (suc n) i ≡ i % b * b ^ n + reversed b n (i / b)

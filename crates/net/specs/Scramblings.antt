@@ -37,8 +37,8 @@ pub record UndoneScramblings (b R : ℕ) : Type 0 where
       → RightInverse b R (nested b R permute R) (unnested b R back R)
   pub additions : (add : ℕ → ℕ → ℕ) → LeadsBack b (adding b add) (taking b add)
 
--- a lawful scrambling moves whole intervals, of any sequence: who visits one before it visits its image after it. So who visits the
--- interval that another scrambling leads back to visits this one.
+-- A lawful scrambling F moves whole intervals of any sequence: the only visit of an interval before F is the only visit of its image after
+-- F. So, where B is a right inverse of F, the visit of an interval after F is that of the interval to which B leads back.
 pub record Moves (S : Sequence) (F : Scrambling) (m a : ℕ) : Type 0 where
   pub moved : (k v w i : ℕ) → v < S .b ^ S .R → w < S .b ^ S .R
       → Only (VisitIn S m a k (top (S .b) (S .R) a v) (top (S .b) (S .R) (m - a) w)) i

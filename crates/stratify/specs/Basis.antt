@@ -34,30 +34,36 @@ Sweeps words indexes n v k word index = (L : ℕ → ℕ) → Additive 2 L → I
 
 -- ---- the arrays of the code
 
--- both have 40 places
+-- the words of a part are cleared together; the arrays have five parts
+abbrev pub part : ℕ
+part = 8
+
+abbrev pub room : ℕ
+room = 40
+
 abbrev pub Long : List ℕ → List ℕ → Type 0
-Long words indexes = (length words ≡ 40) × (length indexes ≡ 40)
+Long words indexes = (length words ≡ room) × (length indexes ≡ room)
 
 -- the first n words are the columns of the shape (m, a), as the intervals of the indexes that have one of them
-abbrev pub Columns : Generators → ℕ → ℕ → ℕ → List ℕ → List ℕ → Type 0
-Columns G m a n words indexes = (c : ℕ) → c < n → (getD words c 0 ≡ interval (plain G) m a (2 ^ c)) × (getD indexes c 0 ≡ 2 ^ c)
+abbrev pub ShapeColumns : Generators → ℕ → ℕ → ℕ → List ℕ → List ℕ → Type 0
+ShapeColumns G m a n words indexes = (c : ℕ) → c < n → (getD words c 0 ≡ interval (plain G) m a (2 ^ c)) × (getD indexes c 0 ≡ 2 ^ c)
 
 -- a word w cleared at the lowest bit of the word `by`; what is added then, to a word or to its index, is x times the bit that w has there
 abbrev pub added : (by w x y : ℕ) → ℕ
 added by w x y = bitXor y (x * (w / 2 ^ trailingZeros 32 by % 2))
 
--- from a place to another the words are cleared and their indexes moved along
+-- the words from one position up to another are cleared, and their indexes moved along
 pub record Clears (by along from to : ℕ) (words indexes words′ indexes′ : List ℕ) : Type 0 where
   pub word : (d : ℕ) → from ≤ d → d < to → getD words′ d 0 ≡ added by (getD words d 0) by (getD words d 0)
   pub index : (d : ℕ) → from ≤ d → d < to → getD indexes′ d 0 ≡ added by (getD words d 0) along (getD indexes d 0)
 
--- and outside of these places a list is as it was
+-- and at all other positions a list is as it was
 abbrev pub Stays : (from to : ℕ) → List ℕ → List ℕ → Type 0
 Stays from to old new = (d : ℕ) → (d < from) ⊎ (to ≤ d) → getD new d 0 ≡ getD old d 0
 
 -- ---- what an elimination of the shape (m, a) hands back
 
--- `bad` is its j, or 0, and then there is a basis that answers every query, with the index for the word asked for
-pub record Eliminates (G : Generators) (m a asked bad index : ℕ) : Type 0 where
-  pub least : bad ≢ 0 → Least (plain G) m a bad
-  pub found : bad ≡ 0 → (fs : List BasisEntry) × Solved G m a fs × (index ≡ solve 2 (interval (plain G) m a) fs asked)
+-- `kernel` is its j, or 0, and then there is a basis that answers every query, with the index for the cell that is asked for
+pub record Eliminates (G : Generators) (m a asked kernel index : ℕ) : Type 0 where
+  pub least : kernel ≢ 0 → Least (plain G) m a kernel
+  pub found : kernel ≡ 0 → (fs : List BasisEntry) × Solved G m a fs × (index ≡ solve 2 (interval (plain G) m a) fs asked)

@@ -1,31 +1,33 @@
-// Elimination for a shape: its columns, and beside them a word that is asked for, are cleared together at the pivot of one column after
-// the other, on arrays of their own.
+// Elimination for a shape, on arrays of its own. The columns of the shape are cleared at the pivot of one column after the other, and with
+// them the number of the cell that is asked for, so that its index is ready at the end.
+use crate::bits::join;
+use crate::bits::top;
+use plan::Plan;
 ghost use mathlib.Core.Path.{_≡_};
 ghost use mathlib.Core.Logic.{_≢_};
 ghost use Prim.Native.Nat.{_+_, _*_, _/_, _%_, _^_, _≤_, _<_};
 ghost use lib.Count.{trailingZeros};
 ghost use Rattle.net.specs.Shape.{Shape};
 ghost use Rattle.plan.specs.Pair.{generators};
-ghost use Rattle.stratify.specs.Basis.{Long, Columns, Clears, Stays, Eliminates};
-use crate::bits::join;
-use crate::bits::top;
-use plan::Plan;
+ghost use Rattle.stratify.specs.Basis.{room, part, Long, ShapeColumns, Clears, Stays, Eliminates};
 
-// What an elimination finds: bad is 0 and index is the one whose image the word asked for is, or bad is the least index that shares the
-// cell of index 0.
+// What an elimination finds. Either kernel is the least index above 0 that shares the cell of index 0, or kernel is 0 and index is the one
+// whose cell was asked for.
 pub(crate) struct Elimination {
     pub kernel: u32,
     pub index: u32,
 }
 
-// Words that are cleared together: the compiler makes one step of it. The arrays have whole parts, with room for the columns of the
-// largest shape and for the word asked for.
+// The words of a part are cleared in one loop, which the compiler vectorises.
 const PART: usize = 8;
 
-// The columns of the shape (m, a), with the indexes that have them.
+// The arrays have five parts: room for the 32 columns of the largest shape and for the cell that is asked for.
+const ROOM: usize = 40;
+
+// Writes the columns of the shape (m, a), each as the number of the cell of the index that has only this column's bit, beside that index.
 fn put_columns(plan: Plan, m: u32, a: u32, words: &mut [u32], indexes: &mut [u32])
     requires { ⌜ Shape (generators plan) m a × Long (now words) (now indexes) ⌝ }
-    ensures { λ _. ⌜ Columns (generators plan) m a m (now (words .exit)) (now (indexes .exit)) ⌝ }
+    ensures { λ _. ⌜ ShapeColumns (generators plan) m a m (now (words .exit)) (now (indexes .exit)) ⌝ }
 {
     let x = plan.x;
     let y = plan.y;
@@ -38,7 +40,7 @@ fn put_columns(plan: Plan, m: u32, a: u32, words: &mut [u32], indexes: &mut [u32
     }
 }
 
-// All ones where a word has the lowest bit of another, and else 0.
+// A mask of all ones if a word has the lowest set bit of another, and else of zeros.
 fn spread(word: u32, by: u32) -> u32
     requires { ⌜ by ≢ 0 ⌝ }
     ensures { λ r. ⌜ r ≡ word / 2 ^ trailingZeros 32 by % 2 * 4294967295 ⌝ }
@@ -49,12 +51,12 @@ fn spread(word: u32, by: u32) -> u32
     4294967295
 }
 
-// The words of a part cleared at the lowest bit of a word, and their indexes moved along.
+// Clears the words of a part at the lowest set bit of one word, and adds that word's index to the indexes of those that had the bit.
 fn clear_part(words: &mut [u32], indexes: &mut [u32], from: usize, by: u32, along: u32)
-    requires { ⌜ (by ≢ 0) × (from + 8 ≤ 40) × Long (now words) (now indexes) ⌝ }
-    ensures cleared { λ _. ⌜ Clears by along from (from + 8) (now (words .entry)) (now (indexes .entry)) (now (words .exit)) (now (indexes .exit)) ⌝ }
-    ensures words { λ _. ⌜ Stays from (from + 8) (now (words .entry)) (now (words .exit)) ⌝ }
-    ensures indexes { λ _. ⌜ Stays from (from + 8) (now (indexes .entry)) (now (indexes .exit)) ⌝ }
+    requires { ⌜ (by ≢ 0) × (from + part ≤ room) × Long (now words) (now indexes) ⌝ }
+    ensures cleared { λ _. ⌜ Clears by along from (from + part) (now (words .entry)) (now (indexes .entry)) (now (words .exit)) (now (indexes .exit)) ⌝ }
+    ensures words { λ _. ⌜ Stays from (from + part) (now (words .entry)) (now (words .exit)) ⌝ }
+    ensures indexes { λ _. ⌜ Stays from (from + part) (now (indexes .entry)) (now (indexes .exit)) ⌝ }
 {
     let mut at = from;
     while at < from + PART {
@@ -67,7 +69,8 @@ fn clear_part(words: &mut [u32], indexes: &mut [u32], from: usize, by: u32, alon
     }
 }
 
-// The words from c to n, and besides them those before c in its part, which nothing reads any more.
+// Clears the words from c to n. The words before c in the same part are changed too: they are columns that are done with, and nothing
+// reads them again.
 fn clear(words: &mut [u32], indexes: &mut [u32], c: usize, n: usize, by: u32, along: u32)
     requires { ⌜ (by ≢ 0) × (n ≤ 32) × (c ≤ n) × Long (now words) (now indexes) ⌝ }
     ensures { λ _. ⌜ Clears by along c (n + 1) (now (words .entry)) (now (indexes .entry)) (now (words .exit)) (now (indexes .exit)) ⌝ }
@@ -79,14 +82,15 @@ fn clear(words: &mut [u32], indexes: &mut [u32], c: usize, n: usize, by: u32, al
     }
 }
 
-// The columns of the shape (m, a) one after the other, and the index for a word.
+// Takes the columns of the shape (m, a) one after the other as pivots. A column that is 0 by then is made of those before it, and its index
+// is in the kernel.
 pub(crate) fn eliminate(plan: Plan, m: u32, a: u32, asked: u32) -> Elimination
     requires { ⌜ Shape (generators plan) m a ⌝ }
     ensures { λ r. ⌜ Eliminates (generators plan) m a asked (r .kernel) (r .index) ⌝ }
 {
     let n = m as usize;
-    let mut words = [0u32; 40];
-    let mut indexes = [0u32; 40];
+    let mut words = [0u32; ROOM];
+    let mut indexes = [0u32; ROOM];
     put_columns(plan, m, a, &mut words, &mut indexes);
     words[n] = asked;
     indexes[n] = 0;
