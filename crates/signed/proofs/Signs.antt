@@ -12,6 +12,7 @@ use mir.Syntax.{w32}
 use mir.Val.{Fits, SFits, toZ, ofZ}
 use mir.ValLaws.{toZ-pos, toZ-ofZ}
 use borrow.Author.Tests.{ltb-true, le-ltb}
+use Rattle.signed.specs.Words.{cast-signed, cast-unsigned}
 
 -- the machine's number, read back from its bits
 abbrev read : ℤ → ℤ
@@ -51,6 +52,10 @@ non-negative z f p = go z f (toZ-ofZ w32 z f) (subst (λ (y : ℤ). ltZ y (pos 0
 -- -1 - z, as the machine hands it on
 pub lowered : {z : ℤ} (b : Negative z) → read (negsuc 0 -ℤ read z) ≡ pos (b .k)
 lowered b = ap read (b .less) ∙ toZ-pos w32 (b .k) (b .fits)
+
+-- the word of a number that the machine has read stands for that number
+pub word-back : {w : ℕ} (z : ℤ) → SFits w32 z → w ≡ cast-unsigned (read z) → cast-signed w ≡ z
+word-back z f e = ap (toZ w32) e ∙ ap read (toZ-ofZ w32 z f) ∙ toZ-ofZ w32 z f
 
 -- what reads as a natural number below 2^31 can be cast to an unsigned word
 pub castable : {y : ℤ} {n : ℕ} → y ≡ pos n → n < 2 ^ 31 → T (nonNeg y) × Fits w32 (natAbs y)
