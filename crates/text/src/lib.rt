@@ -1,5 +1,5 @@
-// Text in a lent buffer: numbers in decimal, and bytes as they are. Every writer puts its text where the buffer has room for the
-// longest that it writes, and else does nothing and hands back the place that it got.
+// Text in a lent buffer: numbers in decimal, and bytes as they are. A writer takes the offset to write at and hands back the offset past
+// its text. Where fewer bytes are left than its longest text has, it writes nothing and hands back the offset that it got.
 mod fields;
 mod groups;
 mod numerals;

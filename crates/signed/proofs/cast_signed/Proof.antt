@@ -1,4 +1,4 @@
--- `cast_signed`: -1 - (2^32 - 1 - w) is the negative number of the word w.
+-- `cast_signed`: from 2^31 on, the word w stands for -1 - (2^32 - 1 - w).
 -- Assumes nothing.
 use mathlib.Core.Path.{_≡_, refl, sym, ap, _∙_, subst}
 use Prim.Native.Nat.{ℕ, zero, suc, _-_, _^_, _≤_, _<_}
