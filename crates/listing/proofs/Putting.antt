@@ -6,6 +6,7 @@ use Prim.Native.Nat.{ℕ, _+_, _≤_, _<_}
 use native.Mathlib.Omega.{arith}
 use lib.ListN.{length, take, drop, length-append}
 use lib.Seq.{drop-drop}
+use Rattle.text.specs.Ascii.{line-feed, blank}
 use Rattle.text.specs.Decimal.{number-text, signed-text, longest-number, longest-signed}
 use Rattle.text.proofs.Puts.{Writes, WritesIfRoom, take-put, drop-put, writes-keeps-length, writes-then, from-if-room}
 use Rattle.text.proofs.Numbers.{number-length, number-longest, signed-longest}
@@ -17,19 +18,19 @@ use Rattle.listing.specs.Cursor.{lead-text}
 
 -- the four fields of a line, put one after the other
 pub line-put : (v : Visit) (d : List ℕ) (at : ℕ) (r₁ : ℕ) (e₁ : List ℕ) (r₂ : ℕ) (e₂ : List ℕ) (r₃ : ℕ) (e₃ : List ℕ) (r₄ : ℕ) (e₄ : List ℕ)
-    → at + longest-line ≤ length d → WritesIfRoom longest-number d at (number-text (v .number) 32) r₁ e₁ → WritesIfRoom longest-number e₁ r₁
-    (number-text (v .index) 32) r₂ e₂
-    → WritesIfRoom longest-signed e₂ r₂ (signed-text (v .x) 32) r₃ e₃ → WritesIfRoom longest-signed e₃ r₃ (signed-text (v .y) 10) r₄ e₄ → Writes d at (line v) r₄ e₄
+    → at + longest-line ≤ length d → WritesIfRoom longest-number d at (number-text (v .number) blank) r₁ e₁ → WritesIfRoom longest-number e₁ r₁
+    (number-text (v .index) blank) r₂ e₂
+    → WritesIfRoom longest-signed e₂ r₂ (signed-text (v .x) blank) r₃ e₃ → WritesIfRoom longest-signed e₃ r₃ (signed-text (v .y) line-feed) r₄ e₄ → Writes d at (line v) r₄ e₄
 unfolding line
 line-put v d at r₁ e₁ r₂ e₂ r₃ e₃ r₄ e₄ h w₁ w₂ w₃ w₄ =
-    let s₁ = number-text (v .number) 32 in
-    let s₂ = number-text (v .index) 32 in
-    let s₃ = signed-text (v .x) 32 in
-    let s₄ = signed-text (v .y) 10 in
-    let m₁ : length s₁ ≤ longest-number = number-longest (v .number) 32 in
-    let m₂ : length s₂ ≤ longest-number = number-longest (v .index) 32 in
-    let m₃ : length s₃ ≤ longest-signed = signed-longest (v .x) 32 in
-    let m₄ : length s₄ ≤ longest-signed = signed-longest (v .y) 10 in
+    let s₁ = number-text (v .number) blank in
+    let s₂ = number-text (v .index) blank in
+    let s₃ = signed-text (v .x) blank in
+    let s₄ = signed-text (v .y) line-feed in
+    let m₁ : length s₁ ≤ longest-number = number-longest (v .number) blank in
+    let m₂ : length s₂ ≤ longest-number = number-longest (v .index) blank in
+    let m₃ : length s₃ ≤ longest-signed = signed-longest (v .x) blank in
+    let m₄ : length s₄ ≤ longest-signed = signed-longest (v .y) line-feed in
     let p₁ : Writes d at s₁ r₁ e₁ = from-if-room longest-number d at s₁ r₁ e₁ (omega arith) w₁ in
     let l₁ : length e₁ ≡ length d = writes-keeps-length d at s₁ r₁ e₁ p₁ (omega arith) in
     let b₁ : r₁ ≤ at + longest-number = omega (arith, p₁ .0) in
@@ -51,34 +52,34 @@ line-put v d at r₁ e₁ r₂ e₂ r₃ e₃ r₄ e₄ h w₁ w₂ w₃ w₄ =
 pub line-longest : (v : Visit) → length (line v) ≤ longest-line
 unfolding line
 line-longest v =
-    let s₁ = number-text (v .number) 32 in
-    let s₂ = number-text (v .index) 32 in
-    let s₃ = signed-text (v .x) 32 in
-    let s₄ = signed-text (v .y) 10 in
+    let s₁ = number-text (v .number) blank in
+    let s₂ = number-text (v .index) blank in
+    let s₃ = signed-text (v .x) blank in
+    let s₄ = signed-text (v .y) line-feed in
     omega (
       arith,
       length-append s₁ (s₂ ++ (s₃ ++ s₄)),
       length-append s₂ (s₃ ++ s₄),
       length-append s₃ s₄,
-      number-longest (v .number) 32,
-      number-longest (v .index) 32,
-      signed-longest (v .x) 32,
-      signed-longest (v .y) 10,
+      number-longest (v .number) blank,
+      number-longest (v .index) blank,
+      signed-longest (v .x) blank,
+      signed-longest (v .y) line-feed,
     )
 
 pub line-some : (v : Visit) → 0 < length (line v)
 unfolding line
 line-some v =
-    let s₁ = number-text (v .number) 32 in
-    let rest = number-text (v .index) 32 ++ (signed-text (v .x) 32 ++ signed-text (v .y) 10) in
-    omega (arith, length-append s₁ rest, number-length (v .number) 32)
+    let s₁ = number-text (v .number) blank in
+    let rest = number-text (v .index) blank ++ (signed-text (v .x) blank ++ signed-text (v .y) line-feed) in
+    omega (arith, length-append s₁ rest, number-length (v .number) blank)
 
 -- what stands before the lines has room where a line has
 pub lead-longest : (k : Lead) → length (lead-text k) ≤ longest-line
 unfolding refused-text
 lead-longest lead.Nothing = omega arith
 lead-longest lead.Header = omega arith
-lead-longest (lead.Refused n) = omega (arith, length-append refused-word (number-text n 10), number-longest n 10)
+lead-longest (lead.Refused n) = omega (arith, length-append refused-word (number-text n line-feed), number-longest n line-feed)
 
 pub lines-none : lines [] ≡ []
 unfolding lines

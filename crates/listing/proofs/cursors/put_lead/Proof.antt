@@ -7,6 +7,7 @@ use native.Mathlib.Nat.{zero-add}
 use native.Mathlib.Omega.{arith}
 use denote.Ref.{now}
 use lib.ListN.{length}
+use Rattle.text.specs.Ascii.{line-feed}
 use Rattle.text.specs.Decimal.{number-text, longest-number}
 use Rattle.text.specs.Put.{put}
 use Rattle.text.proofs.Puts.{Writes, put-nothing, writes-keeps-length, writes-then, from-if-room}
@@ -81,18 +82,18 @@ returns-3 c =
     (omega (arith, c .before .before .before .before .before .before .before .before .before .before .before .before .before .pre)) (u .ensures) in
     let l : length (u .last .1 .0) ≡ length d = writes-keeps-length d 0 refused-word (u .result) (u .last .1 .0) p
     (omega (arith, c .before .before .before .before .before .before .before .before .before .before .before .before .before .pre)) in
-    let q : Writes (u .last .1 .0) (u .result) (number-text n 10) (v .result) (v .last .1 .1 .0) =
-    from-if-room longest-number (u .last .1 .0) (u .result) (number-text n 10) (v .result) (v .last .1 .1 .0)
+    let q : Writes (u .last .1 .0) (u .result) (number-text n line-feed) (v .result) (v .last .1 .1 .0) =
+    from-if-room longest-number (u .last .1 .0) (u .result) (number-text n line-feed) (v .result) (v .last .1 .1 .0)
     (omega (arith, c .before .before .before .before .before .before .before .before .before .before .before .before .before .pre, p .0, l))
     (v .ensures) in
     subst (λ (k : Lead). Led d (lead-text k) (v .result) (v .last .1 .1 .0))
     (sym (c .before .before .before .before .before .before .before .before .before .before .lead .given .1))
     (led d (refused-text n) (v .result) (v .last .1 .1 .0)
-    (writes-then d 0 refused-word (number-text n 10) (u .result) (u .last .1 .0) (v .result) (v .last .1 .1 .0) p q
+    (writes-then d 0 refused-word (number-text n line-feed) (u .result) (u .last .1 .0) (v .result) (v .last .1 .1 .0) p q
     (omega (
       arith,
       c .before .before .before .before .before .before .before .before .before .before .before .before .before .pre,
-      number-longest n 10,
+      number-longest n line-feed,
     ))))
 
 pub put-lead-spec : {M : Type 1} → statement M
