@@ -9,8 +9,8 @@ ghost use Rattle.text.specs.Put.{put};
 ghost use Rattle.listing.specs.Listing.{line, longest-line};
 ghost use Rattle.listing.specs.Lines.{LinesPut};
 
-// The most bytes that a line has.
-pub(crate) const LONGEST_LINE: usize = 46;
+// The length of the longest line: two numbers and two signed numbers, each with the byte after it.
+pub(crate) const LONGEST_LINE: usize = 2 * text::LONGEST_NUMBER + 2 * text::LONGEST_SIGNED;
 
 pub(crate) struct Filled {
     pub len: usize,

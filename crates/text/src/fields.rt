@@ -10,10 +10,10 @@ ghost use Rattle.text.specs.Decimal.{number-text, signed-text, longest-n
 ghost use Rattle.text.specs.Put.{put, written, end};
 
 // Ten digits and the byte after them.
-const LONGEST_NUMBER: usize = 11;
+pub const LONGEST_NUMBER: usize = 11;
 
 // A sign, ten digits and the byte after them.
-const LONGEST_SIGNED: usize = 12;
+pub const LONGEST_SIGNED: usize = 12;
 
 // Whether n bytes are left from offset `at` on. The sum of both might not fit its type, so they are subtracted from the length.
 fn has_room(n: usize, length: usize, at: usize) -> bool

@@ -4,6 +4,8 @@ mod fields;
 mod groups;
 mod numerals;
 
+pub use fields::LONGEST_NUMBER;
+pub use fields::LONGEST_SIGNED;
 pub use fields::bytes;
 pub use fields::number;
 pub use fields::signed_number;

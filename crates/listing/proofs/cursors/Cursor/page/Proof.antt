@@ -17,7 +17,7 @@ use borrow.Author.Needs.{needs}
 use Rattle.listing.proofs.cursors.Cursor.page.Statement.{statement}
 use Rattle.listing.proofs.cursors.Cursor.page.Tie as tie
 
--- what is the same behind a place is the same behind a later one
+-- buffers that agree from an offset on agree from a later one on
 behind : (n at : ℕ) (d e : List ℕ) → at ≤ n → drop at d ≡ drop at e → drop n d ≡ drop n e
 behind n at d e h q =
     let k : n ≡ at + (n - at) = omega arith in
