@@ -13,7 +13,7 @@ use mir.Val.{SFits}
 use borrow.Author.Tests.{ne-eqb}
 use Rattle.text.specs.Ascii.{minus-sign, digit-zero}
 use Rattle.text.specs.Decimal.{decimal, signed-decimal}
-use Rattle.text.specs.Theorem.{read-on, number-read, unsigned, integer-read, AllDigits}
+use Rattle.text.specs.Theorem.{read-on, number-read, without-minus, integer-read, AllDigits}
 use Rattle.text.proofs.Back.{reads-back, all-digits, no-zero-leads}
 
 no-minus : (d : ℕ) → digit-zero ≤ d → d ≢ minus-sign
@@ -24,9 +24,9 @@ unfolding read-on
 digits-read [] p = refl
 digits-read (d ∷ ds) p = simp (ne-eqb d minus-sign (no-minus d (p .0 .0)))
 
-digits-unsigned : (ds : List ℕ) → AllDigits ds → AllDigits (unsigned ds)
-digits-unsigned [] p = tt
-digits-unsigned (d ∷ ds) p = simp (ne-eqb d minus-sign (no-minus d (p .0 .0))) p
+digits-without-minus : (ds : List ℕ) → AllDigits ds → AllDigits (without-minus ds)
+digits-without-minus [] p = tt
+digits-without-minus (d ∷ ds) p = simp (ne-eqb d minus-sign (no-minus d (p .0 .0))) p
 
 digits-no-minus : (ds : List ℕ) → AllDigits ds → (i : ℕ) → getD ds i 0 ≢ minus-sign
 digits-no-minus [] p i e = omega arith
@@ -43,8 +43,8 @@ signed-reads-back (pos n) f =
     digits-read (decimal n) (all-digits n) ∙ ap pos (reads-back n (omega arith))
 signed-reads-back (negsuc n) f = ap (λ (k : ℕ). negℤ (pos k)) (reads-back (suc n) (word n (f .sfits)))
 
-pub signed-all-digits : (z : ℤ) → AllDigits (unsigned (signed-decimal z))
-signed-all-digits (pos n) = digits-unsigned (decimal n) (all-digits n)
+pub signed-all-digits : (z : ℤ) → AllDigits (without-minus (signed-decimal z))
+signed-all-digits (pos n) = digits-without-minus (decimal n) (all-digits n)
 signed-all-digits (negsuc n) = all-digits (suc n)
 
 pub minus-leads : (z : ℤ) (i : ℕ) → 0 < i → getD (signed-decimal z) i 0 ≢ minus-sign

@@ -25,9 +25,9 @@ abbrev pub number-read : List ℕ → ℕ
 number-read ds = read-on 0 ds
 
 -- a text without the minus sign that it may begin with
-abbrev pub unsigned : List ℕ → List ℕ
-unsigned [] = []
-unsigned (c ∷ cs) = cond (eqb c minus-sign) cs (c ∷ cs)
+abbrev pub without-minus : List ℕ → List ℕ
+without-minus [] = []
+without-minus (c ∷ cs) = cond (eqb c minus-sign) cs (c ∷ cs)
 
 -- the integer that a text stands for: digits, or a minus sign and digits
 abbrev pub integer-read : List ℕ → ℤ
@@ -52,7 +52,7 @@ pub record Readable : Type 0 where
 pub record SignedReadable : Type 0 where
   pub reads-back : (z : ℤ) → SFits w32 z → integer-read (signed-decimal z) ≡ z
   -- without its minus sign the text has digits only
-  pub all-digits : (z : ℤ) → AllDigits (unsigned (signed-decimal z))
+  pub all-digits : (z : ℤ) → AllDigits (without-minus (signed-decimal z))
   -- only the first byte can be a minus sign
   pub minus-leads : (z : ℤ) (i : ℕ) → 0 < i → getD (signed-decimal z) i 0 ≢ minus-sign
   -- there is no -0, and no zero after a minus sign

@@ -7,8 +7,8 @@ use refusal::Refusal;
 use region_file::Record;
 use stage::Placed;
 ghost use mathlib.Core.Path.{_≡_};
-ghost use Rattle.visits.specs.Visits.{visits-outcome};
 ghost use Rattle.stage.specs.Region.{of-placed};
+ghost use Rattle.visits.specs.Visits.{visits-outcome};
 ghost use Rattle.visits.specs.Place.{Gives, of-opened, ended};
 ghost use Rattle.visits.specs.Stepping.{visit-position-outcome, here};
 
