@@ -20,7 +20,8 @@ use Rattle.listing.specs.Cursor.{lead-text}
 pub line-put : (v : Visit) (d : List ℕ) (at : ℕ) (r₁ : ℕ) (e₁ : List ℕ) (r₂ : ℕ) (e₂ : List ℕ) (r₃ : ℕ) (e₃ : List ℕ) (r₄ : ℕ) (e₄ : List ℕ)
     → at + longest-line ≤ length d → WritesIfRoom longest-number d at (number-text (v .number) blank) r₁ e₁ → WritesIfRoom longest-number e₁ r₁
     (number-text (v .index) blank) r₂ e₂
-    → WritesIfRoom longest-signed e₂ r₂ (signed-text (v .x) blank) r₃ e₃ → WritesIfRoom longest-signed e₃ r₃ (signed-text (v .y) line-feed) r₄ e₄ → Writes d at (line v) r₄ e₄
+    → WritesIfRoom longest-signed e₂ r₂ (signed-text (v .x) blank) r₃ e₃
+    → WritesIfRoom longest-signed e₃ r₃ (signed-text (v .y) line-feed) r₄ e₄ → Writes d at (line v) r₄ e₄
 unfolding line
 line-put v d at r₁ e₁ r₂ e₂ r₃ e₃ r₄ e₄ h w₁ w₂ w₃ w₄ =
     let s₁ = number-text (v .number) blank in

@@ -35,7 +35,8 @@ reads (suc f) n h = go (ltb n 10) refl (reads f (n / 10) (fewer f n h))
     go : (b : Bool) → ltb n 10 ≡ b → read-on 0 (decimal-in f (n / 10)) ≡ n / 10
         → read-on 0 (cond b ((digit-zero + n) ∷ []) (decimal-in f (n / 10) ++ ((digit-zero + n % 10) ∷ []))) ≡ n
     go true e r = omega arith
-    go false e r = read-on-last 0 (decimal-in f (n / 10)) (digit-zero + n % 10) ∙ ap (λ (v : ℕ). v * 10 + (digit-zero + n % 10 - digit-zero)) r ∙ back n
+    go false e r =
+        read-on-last 0 (decimal-in f (n / 10)) (digit-zero + n % 10) ∙ ap (λ (v : ℕ). v * 10 + (digit-zero + n % 10 - digit-zero)) r ∙ back n
 
 head-append : (xs ys : List ℕ) → digit-zero < getD xs 0 0 → digit-zero < getD (xs ++ ys) 0 0
 head-append [] ys h = absurd (omega arith)

@@ -16,8 +16,8 @@ unfolding decimal-in
 decimal-length zero n = omega arith
 decimal-length (suc f) n = go (ltb n 10) (decimal-length f (n / 10))
   where
-    go : (b : Bool) → length (decimal-in f (n / 10)) ≤ suc f → length (cond b ((digit-zero + n) ∷ []) (decimal-in f (n / 10) ++ ((digit-zero + n % 10) ∷ []))) ≤ suc
-        (suc f)
+    go : (b : Bool) → length (decimal-in f (n / 10)) ≤ suc f
+        → length (cond b ((digit-zero + n) ∷ []) (decimal-in f (n / 10) ++ ((digit-zero + n % 10) ∷ []))) ≤ suc (suc f)
     go true h = omega arith
     go false h = omega (arith, length-append (decimal-in f (n / 10)) ((digit-zero + n % 10) ∷ []))
 

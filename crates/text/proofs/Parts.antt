@@ -26,13 +26,16 @@ more f n h = simp (le-ltb n 10 h)
 enough : (f n : ℕ) → n < 10 ^ suc f → decimal-in (suc f) n ≡ decimal-in f n
 unfolding decimal-in
 enough zero n h = let e : n ≡ n % 10 = omega arith in one zero n (omega arith) ∙ ap (λ (k : ℕ). (digit-zero + k) ∷ []) e
-enough (suc f) n h = ap (λ (s : List ℕ). cond (ltb n 10) ((digit-zero + n) ∷ []) (s ++ ((digit-zero + n % 10) ∷ []))) (enough f (n / 10) (fewer f n h))
+enough (suc f) n h =
+    ap (λ (s : List ℕ). cond (ltb n 10) ((digit-zero + n) ∷ []) (s ++ ((digit-zero + n % 10) ∷ []))) (enough f (n / 10) (fewer f n h))
 
 pub decimal-below-10 : (n : ℕ) → n < 10 → decimal n ≡ (digit-zero + n) ∷ []
 decimal-below-10 n h = one 8 n h
 
 decimal-more : (n : ℕ) → 10 ≤ n → n < 2 ^ 32 → decimal n ≡ decimal (n / 10) ++ ((digit-zero + n % 10) ∷ [])
-decimal-more n h l = let b : n / 10 < 10 ^ 9 = omega arith in more 8 n h ∙ ap (λ (s : List ℕ). s ++ ((digit-zero + n % 10) ∷ [])) (sym (enough 8 (n / 10) b))
+decimal-more n h l =
+    let b : n / 10 < 10 ^ 9 = omega arith in
+    more 8 n h ∙ ap (λ (s : List ℕ). s ++ ((digit-zero + n % 10) ∷ [])) (sym (enough 8 (n / 10) b))
 
 pub decimal-below-100 : (n : ℕ) → 10 ≤ n → n < 100 → decimal n ≡ two-digits n
 decimal-below-100 n h l =
@@ -99,5 +102,6 @@ module _ (d : List ℕ) (at n r : ℕ) (e : List ℕ) (r′ : ℕ) (e′ : List 
   pub writes-last-two : 100 ≤ n → Writes d at (decimal (n / 100)) r e → Writes e r (two-digits (n % 100)) r′ e′ → Writes d at (decimal n) r′ e′
   writes-last-two b p q = writes-parts d at (decimal (n / 100)) (two-digits (n % 100)) (decimal n) r e r′ e′ (decimal-last-two n b l) p q h
 
-  pub writes-last-four : 10000 ≤ n → Writes d at (decimal (n / 10000)) r e → Writes e r (four-digits (n % 10000)) r′ e′ → Writes d at (decimal n) r′ e′
+  pub writes-last-four : 10000 ≤ n → Writes d at (decimal (n / 10000)) r e → Writes e r (four-digits (n % 10000)) r′ e′
+      → Writes d at (decimal n) r′ e′
   writes-last-four b p q = writes-parts d at (decimal (n / 10000)) (four-digits (n % 10000)) (decimal n) r e r′ e′ (decimal-last-four n b l) p q h

@@ -70,7 +70,8 @@ refused-outside r i e = go (within (r .region)) refl
     go false h = h
     go true h = absurd (accepted-refused (sym (first-passes (accepted (position-of r i)) 10 [] (ap not h) ∙ first-none _) ∙ e))
 
-pub accepted-inside : (r : Record) (i : ℕ) {p : Position} → visit-position-outcome r i ≡ accepted p → (within (r .region) ≡ true) × (position-of r i ≡ p)
+pub accepted-inside : (r : Record) (i : ℕ) {p : Position} → visit-position-outcome r i ≡ accepted p
+    → (within (r .region) ≡ true) × (position-of r i ≡ p)
 accepted-inside r i e =
     let h = first-accepted (accepted (position-of r i)) 10 [] (not (within (r .region))) e in
     (not-false _ (h .0), accepted-same (sym (first-none _) ∙ h .1))

@@ -75,7 +75,8 @@ returns-2 c =
     let m = c .before .before .before .before .before .before .before .before .unsigned-abs .ensures ∙ ap natAbs e in
     to-if-room longest-signed (now (a .out)) (a .at) (signed-text (a .z) (a .last)) (v .result) (v .last .1 .1 .0)
     (room (c .before .before .before .before .before .before .before .before .before))
-    (writes-then (now (a .out)) (a .at) (sign (a .z)) (number-text (natAbs (a .z)) (a .last)) (u .result) (u .last .1 .0) (v .result) (v .last .1 .1 .0)
+    (writes-then (now (a .out)) (a .at) (sign (a .z)) (number-text (natAbs (a .z)) (a .last)) (u .result) (u .last .1 .0) (v .result)
+    (v .last .1 .1 .0)
     (subst (λ (z : ℤ). Writes (now (a .out)) (a .at) (sign z) (u .result) (u .last .1 .0)) e (u .ensures))
     (subst (λ (k : ℕ). Writes (u .last .1 .0) (u .result) (number-text k (a .last)) (v .result) (v .last .1 .1 .0)) m (v .ensures))
     (omega (

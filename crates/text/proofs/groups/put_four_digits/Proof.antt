@@ -37,8 +37,9 @@ returns c =
     writes-then (now (a .out)) (a .at) (two-digits (a .n / 100)) (two-digits (a .n % 100)) (u .result) (u .last .1 .0) (v .result) (v .last .1 .0)
     (subst (λ (s : List ℕ). Writes (now (a .out)) (a .at) s (u .result) (u .last .1 .0)) (two-digits-bytes (w .result % 65536) (a .n / 100) p low)
     (u .ensures))
-    (subst (λ (s : List ℕ). Writes (u .last .1 .0) (u .result) s (v .result) (v .last .1 .0)) (two-digits-bytes (w .result / 65536) (a .n % 100) q high)
-    (v .ensures)) (omega (arith, c .before .before .before .before .before .before .before .before .before .before .pre .1))
+    (subst (λ (s : List ℕ). Writes (u .last .1 .0) (u .result) s (v .result) (v .last .1 .0))
+    (two-digits-bytes (w .result / 65536) (a .n % 100) q high) (v .ensures))
+    (omega (arith, c .before .before .before .before .before .before .before .before .before .before .pre .1))
 
 pub put-four-digits-spec : {M : Type 1} → statement M
 put-four-digits-spec =

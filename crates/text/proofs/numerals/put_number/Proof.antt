@@ -28,7 +28,8 @@ returns c =
     let a = c .before .before .before .before .before .before .before .before .before .args in
     let u = c .before .before .before .before .before .before .put-decimal in
     let v = c .before .before .put-byte in
-    writes-then (now (a .out)) (a .at) (decimal (a .n)) (a .last ∷ []) (u .result) (u .last .1 .0) (v .result) (v .last .1 .0) (u .ensures) (v .ensures)
+    writes-then (now (a .out)) (a .at) (decimal (a .n)) (a .last ∷ []) (u .result) (u .last .1 .0) (v .result) (v .last .1 .0)
+    (u .ensures) (v .ensures)
     (omega (arith, c .before .before .before .before .before .before .before .before .before .pre, number-length (a .n) (a .last)))
 
 pub put-number-spec : {M : Type 1} → statement M

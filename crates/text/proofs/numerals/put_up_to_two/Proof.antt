@@ -47,7 +47,8 @@ returns-2 c =
     let a = c .before .before .before .before .before .before .args in
     let u = c .before .before .put-two-digits in
     subst (λ (s : List ℕ). Writes (now (a .out)) (a .at) s (u .result) (u .last .1 .0))
-    (sym (decimal-below-100 (a .n) (c .before .before .before .before .if1 .left) (c .before .before .before .before .before .before .pre .0))) (u .ensures)
+    (sym (decimal-below-100 (a .n) (c .before .before .before .before .if1 .left) (c .before .before .before .before .before .before .pre .0)))
+    (u .ensures)
 
 pub put-up-to-two-spec : {M : Type 1} → statement M
 put-up-to-two-spec =
