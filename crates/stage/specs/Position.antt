@@ -5,20 +5,22 @@ use lib.Dec.{ltb}
 use lib.IntN.{ℤ, pos, negsuc, _+ℤ_}
 use lib.Signed.{ltZ}
 
--- an edge lies from -1,000,000 to 1,000,000
+-- the smallest and the largest edge: -1,000,000 and 1,000,000
 abbrev pub smallest-edge : ℤ
 smallest-edge = negsuc 999999
 
 abbrev pub largest-edge : ℤ
 largest-edge = pos 1000000
 
+-- an edge is neither below the smallest nor above the largest
 abbrev pub edge-within : ℤ → Bool
 edge-within e = not (ltZ e smallest-edge) && not (ltZ largest-edge e)
 
--- an extent (a width or a height) lies from 1 to 1,000,000
+-- the largest extent, that is, width or height
 abbrev pub largest-extent : ℕ
 largest-extent = 1000000
 
+-- an extent is at least 1, and not above the largest
 abbrev pub extent-within : ℕ → Bool
 extent-within x = not (ltb x 1) && not (ltb largest-extent x)
 
