@@ -2,6 +2,7 @@
 use plan::Point;
 use refusal::Judgement;
 use refusal::Refusal;
+use signed::unsigned_abs;
 
 pub fn text(bytes: &[u8]) {
     io::write_all(1, bytes);
@@ -25,9 +26,10 @@ pub fn last_number(n: u32) {
 
 // A signed number, and a byte after it.
 pub fn signed_number(z: i32, last: u8) {
-    let mut space = [0u8; 12];
-    let n = text::signed_number(z, last, &mut space, 0);
-    text(&space[..n]);
+    if z < 0 {
+        text(b"-");
+    }
+    wide_number(unsigned_abs(z) as u64, last);
 }
 
 pub fn point_line(at: Point) {

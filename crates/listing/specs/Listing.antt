@@ -1,30 +1,31 @@
 -- The listing of a region file, as bytes of ASCII.
-use Prim.Native.Nat.{ℕ}
+use Prim.Native.Nat.{ℕ, _+_}
 use mathlib.Core.List.{List, [], _∷_, _++_}
 use Rattle.refusal.specs.Outcome.{Outcome, accepted, refused}
-use Rattle.text.specs.Decimal.{number-text, signed-text}
+use Rattle.text.specs.Ascii.{line-feed, blank}
+use Rattle.text.specs.Decimal.{number-text, signed-text, longest-number, longest-signed}
 use Rattle.visits.specs.declared.file_walks.FileVisit.{FileVisit}
 use Rattle.visits.specs.Visits.{visits-outcome}
 
 -- "record visit x y" and a line feed
 abbrev pub header : List ℕ
-header = 114 ∷ 101 ∷ 99 ∷ 111 ∷ 114 ∷ 100 ∷ 32 ∷ 118 ∷ 105 ∷ 115 ∷ 105 ∷ 116 ∷ 32 ∷ 120 ∷ 32 ∷ 121 ∷ 10 ∷ []
+header = 114 ∷ 101 ∷ 99 ∷ 111 ∷ 114 ∷ 100 ∷ blank ∷ 118 ∷ 105 ∷ 115 ∷ 105 ∷ 116 ∷ blank ∷ 120 ∷ blank ∷ 121 ∷ line-feed ∷ []
 
 -- "refused "
 abbrev pub refused-word : List ℕ
-refused-word = 114 ∷ 101 ∷ 102 ∷ 117 ∷ 115 ∷ 101 ∷ 100 ∷ 32 ∷ []
+refused-word = 114 ∷ 101 ∷ 102 ∷ 117 ∷ 115 ∷ 101 ∷ 100 ∷ blank ∷ []
 
 -- and the number, with a line feed
 unfoldable pub refused-text : ℕ → List ℕ
-refused-text n = refused-word ++ number-text n 10
+refused-text n = refused-word ++ number-text n line-feed
 
 -- the number of the record, the index and the position, a space between and a line feed behind
 unfoldable pub line : FileVisit → List ℕ
-line v = number-text (v .number) 32 ++ (number-text (v .index) 32 ++ (signed-text (v .x) 32 ++ signed-text (v .y) 10))
+line v = number-text (v .number) blank ++ (number-text (v .index) blank ++ (signed-text (v .x) blank ++ signed-text (v .y) line-feed))
 
--- the most bytes that a line has
+-- the length of the longest line
 abbrev pub longest-line : ℕ
-longest-line = 46
+longest-line = longest-number + longest-number + longest-signed + longest-signed
 
 -- one after the other
 unfoldable pub lines : List FileVisit → List ℕ

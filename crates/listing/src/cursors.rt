@@ -39,7 +39,7 @@ fn put_lead(lead: Lead, out: &mut [u8]) -> usize
         Lead::Header => text::bytes(b"record visit x y\n", out, 0),
         Lead::Refused(number) => {
             let at = text::bytes(b"refused ", out, 0);
-            text::number(number, 10, out, at)
+            text::number(number, b'\n', out, at)
         }
     }
 }

@@ -9,8 +9,8 @@ ghost use Rattle.text.specs.Put.{put};
 ghost use Rattle.listing.specs.Listing.{line, longest-line};
 ghost use Rattle.listing.specs.Lines.{LinesPut};
 
-// The most bytes that a line has.
-pub(crate) const LONGEST_LINE: usize = 46;
+// The length of the longest line: two numbers and two signed numbers, each with the byte after it.
+pub(crate) const LONGEST_LINE: usize = 2 * text::LONGEST_NUMBER + 2 * text::LONGEST_SIGNED;
 
 pub(crate) struct Filled {
     pub len: usize,
@@ -23,12 +23,12 @@ fn put_line(visit: FileVisit, out: &mut [u8], at: usize) -> usize
     ensures end { λ r. ⌜ r ≡ at + length (line visit) ⌝ }
     ensures text { λ _. ⌜ now (out .exit) ≡ put (now (out .entry)) at (line visit) ⌝ }
 {
-    let second = text::number(visit.number, 32, out, at);
-    let third = text::number(visit.index, 32, out, second);
+    let second = text::number(visit.number, b' ', out, at);
+    let third = text::number(visit.index, b' ', out, second);
     let x = visit.x;
-    let fourth = text::signed_number(x, 32, out, third);
+    let fourth = text::signed_number(x, b' ', out, third);
     let y = visit.y;
-    text::signed_number(y, 10, out, fourth)
+    text::signed_number(y, b'\n', out, fourth)
 }
 
 // The lines to come from a walk, each while the longest line has room.

@@ -4,8 +4,7 @@ use mathlib.Core.Bool.{Bool, true, _&&_}
 use mathlib.Core.List.{List}
 use lib.Dec.{eqb}
 use lib.ListN.{length, getD}
-use mir.Syntax.{w32}
-use mir.Val.{toZ}
+use Rattle.signed.specs.Words.{cast-signed}
 use Rattle.region_file.specs.declared.fields.Record.{Record}
 
 -- four bytes from a place on, the lowest first
@@ -21,7 +20,7 @@ field file n k = word-at file (n * 32 + k * 4)
 unfoldable pub record-at : List ℕ → ℕ → Record
 record-at file n = record {
   next = field file n 0;
-  region = record { left = toZ w32 (field file n 1); top = toZ w32 (field file n 2); width = field file n 3; height = field file n 4 };
+  region = record { left = cast-signed (field file n 1); top = cast-signed (field file n 2); width = field file n 3; height = field file n 4 };
   shift = record { x = field file n 5; y = field file n 6 };
   count = field file n 7;
 }

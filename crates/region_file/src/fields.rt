@@ -1,11 +1,10 @@
 // The fields of a file. Bytes past its end count as 0, so that every record number names a record.
 use plan::Shift;
+use signed::cast_signed;
 use stage::Region;
 ghost use mathlib.Core.Path.{_≡_};
 ghost use Prim.Native.Nat.{_<_};
 ghost use lib.ListN.{getD};
-ghost use mir.Syntax.{w32};
-ghost use mir.Val.{toZ};
 ghost use Rattle.region_file.specs.Fields.{field, record-at, first-record, records};
 
 // A record of the chain: the number of the next one, where to look, the digital shift, and how many visits.
@@ -42,24 +41,14 @@ pub(crate) fn field(file: &[u8], n: u32, k: u32) -> u32
         + byte_at(file, at + 3) * 16777216
 }
 
-// A field in two's complement, as a number.
-pub fn signed(word: u32) -> i32
-    ensures { λ r. ⌜ r ≡ toZ w32 word ⌝ }
-{
-    if word < 2147483648 {
-        return word as i32;
-    }
-    -1 - (4294967295 - word) as i32
-}
-
 fn region_at(file: &[u8], n: u32) -> Region
     ensures { λ r. ⌜ r ≡ record-at (now (file .entry)) n .region ⌝ }
 {
     let left = field(file, n, 1);
     let top = field(file, n, 2);
     Region {
-        left: signed(left),
-        top: signed(top),
+        left: cast_signed(left),
+        top: cast_signed(top),
         width: field(file, n, 3),
         height: field(file, n, 4),
     }

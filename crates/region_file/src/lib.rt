@@ -7,5 +7,4 @@ pub use fields::Record;
 pub use fields::first_record;
 pub use fields::record_at;
 pub use fields::record_count;
-pub use fields::signed;
 pub use judging::judge;

@@ -1,7 +1,7 @@
--- What a region within its limits has, and positions in it.
+-- The limits of a region, one by one, and edges and positions as the machine reads them back.
 -- Assumes nothing.
 use mathlib.Core.Path.{_≡_, refl, sym, ap, _∙_}
-use Prim.Native.Nat.{ℕ, _≤_}
+use Prim.Native.Nat.{ℕ, _≤_, _<_}
 use mathlib.Core.Bool.{Bool, true, false, _&&_, not, true≢false}
 use lib.Dec.{ltb}
 use lib.IntN.{ℤ}
@@ -32,13 +32,18 @@ pub both : (a b : Bool) → (a && b) ≡ true → (a ≡ true) × (b ≡ true)
 both true b e = (refl, e)
 both false b e = absurd (true≢false (sym e))
 
+extent-some : (x : ℕ) → extent-within x ≡ true → 0 < x
+extent-some x e = ltb-false x 1 (not-true _ (both (not (ltb x 1)) (not (ltb largest-extent x)) e .0))
+
 extent-most : (x : ℕ) → extent-within x ≡ true → x ≤ largest-extent
 extent-most x e = ltb-false largest-extent x (not-true _ (both (not (ltb x 1)) (not (ltb largest-extent x)) e .1))
 
 pub record Within (r : Region) : Type 0 where
   pub left : edge-within (r .left) ≡ true
   pub top : edge-within (r .top) ≡ true
+  pub some-width : 0 < r .width
   pub width : r .width ≤ largest-extent
+  pub some-height : 0 < r .height
   pub height : r .height ≤ largest-extent
 
 pub within-has : (r : Region) → within r ≡ true → Within r
@@ -47,4 +52,11 @@ within-has r e =
     let first = both _ _ e in
     let second = both _ _ (first .0) in
     let third = both _ _ (second .0) in
-    record { left = third .0; top = third .1; width = extent-most (r .width) (second .1); height = extent-most (r .height) (first .1) }
+    record {
+      left = third .0;
+      top = third .1;
+      some-width = extent-some (r .width) (second .1);
+      width = extent-most (r .width) (second .1);
+      some-height = extent-some (r .height) (first .1);
+      height = extent-most (r .height) (first .1);
+    }

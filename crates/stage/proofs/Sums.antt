@@ -1,18 +1,19 @@
--- Offsets, and signed sums as the machine makes them.
+-- Offsets are at most their extents, so signed sums fit in 32 bits; and such sums keep the order.
 -- Assumes nothing.
-use mathlib.Core.Path.{_≡_, sym, ap, _∙_, subst}
+use mathlib.Core.Path.{_≡_, refl, sym, ap, _∙_, subst}
 use Prim.Native.Nat.{ℕ, suc, _+_, _-_, _*_, _/_, _^_, _≤_, _<_}
 use native.Mathlib.Nat.{le-of-lt, lt-of-le-of-lt, mul-le-mul-left, mul-le-mul-right, mul-lt-mul-of-pos-right, div-lt-iff-lt-mul}
 use native.Mathlib.Omega.{arith}
 use mathlib.Core.Bool.{Bool, true, false, not, cond}
-use lib.Dec.{T, ltb, nltb→le, lit<}
+use lib.Dec.{T, ltb, nltb→le, le→leb, lt→ltb, lit<}
 use lib.Pow.{pow-add, pow-pos}
 use lib.IntN.{ℤ, pos, negsuc, _+ℤ_}
-use lib.Signed.{mag}
+use lib.Signed.{mag, ltZ, leZ, _≤ℤ_, _<ℤ_, leZ-yes, ltZ-yes}
 use mir.Syntax.{w32}
 use mir.Val.{SFits, ofZ, toZ}
 use mir.ValLaws.{toZ-ofZ, toZ-pos}
 use lib.Ieee.Fits.{and-l}
+use borrow.Author.Tests.{ltb-true, ltb-false}
 use Rattle.stage.specs.Position.{edge-within, offset, largest-extent}
 
 -- the product of two words has at most twice their binary digits
@@ -46,6 +47,29 @@ moved-fits e n t h = record { sfits = omega (arith, moved-small e n t h) }
 -- what the machine adds
 pub moved : (e : ℤ) (n : ℕ) → SFits w32 e → n ≤ largest-extent → toZ w32 (ofZ w32 e) +ℤ toZ w32 n ≡ e +ℤ pos n
 moved e n f h = ap (λ (z : ℤ). z +ℤ toZ w32 n) (toZ-ofZ w32 e f) ∙ ap (λ (z : ℤ). e +ℤ z) (toZ-pos w32 n (omega arith))
+
+-- ---- the order of the integers
+
+below-plus : (a n : ℕ) (b : Bool) → T (leZ (negsuc a) (cond b (negsuc (suc a - suc n)) (pos (n - suc a))))
+below-plus a n true = le→leb (suc a - suc n) a (omega arith)
+below-plus a n false = tt
+
+-- e ≤ e + n
+pub le-plus : (e : ℤ) (n : ℕ) → e ≤ℤ (e +ℤ pos n)
+le-plus (pos a) n = leZ-yes (le→leb a (a + n) (omega arith))
+le-plus (negsuc a) n = leZ-yes (below-plus a n (ltb n (suc a)))
+
+-- e + m < e + n where m < n
+pub plus-lt-plus : (e : ℤ) (m n : ℕ) → m < n → (e +ℤ pos m) <ℤ (e +ℤ pos n)
+plus-lt-plus (pos a) m n h = ltZ-yes (lt→ltb (a + m) (a + n) (omega arith))
+plus-lt-plus (negsuc a) m n h = ltZ-yes (go (ltb m (suc a)) (ltb n (suc a)) refl refl)
+  where
+    go : (b c : Bool) → ltb m (suc a) ≡ b → ltb n (suc a) ≡ c
+        → T (ltZ (cond b (negsuc (suc a - suc m)) (pos (m - suc a))) (cond c (negsuc (suc a - suc n)) (pos (n - suc a))))
+    go true true p q = lt→ltb (suc a - suc n) (suc a - suc m) (omega (arith, h, ltb-true n (suc a) q))
+    go true false p q = tt
+    go false true p q = absurd (omega (arith, h, ltb-false m (suc a) p, ltb-true n (suc a) q))
+    go false false p q = lt→ltb (m - suc a) (n - suc a) (omega (arith, h, ltb-false m (suc a) p))
 
 -- a test of a signed number, from the test of what is read back from its bits
 pub read-back : (f : ℤ → Bool) (b : Bool) (e : ℤ) → SFits w32 e → f (toZ w32 (ofZ w32 e)) ≡ b → f e ≡ b

@@ -1,9 +1,20 @@
--- What users rely on: a position is cut down to a whole number of µm, and it lies in its region.
+-- What users rely on: a position is rounded down to a whole number of µm, and it lies in its region.
 use Prim.Native.Nat.{ℕ, suc, _*_, _^_, _≤_, _<_}
+use mathlib.Core.Path.{_≡_}
+use mathlib.Core.Bool.{true}
+use lib.IntN.{ℤ, pos, _+ℤ_}
+use lib.Signed.{_≤ℤ_, _<ℤ_}
+use Rattle.stage.specs.declared.regions.Region.{Region}
 use Rattle.stage.specs.Position.{offset}
+use Rattle.stage.specs.Region.{within, position-in}
+
+-- edge ≤ z < edge + extent, over the integers
+abbrev pub Inside : (edge : ℤ) (extent : ℕ) (z : ℤ) → Type 0
+Inside edge extent z = (edge ≤ℤ z) × (z <ℤ (edge +ℤ pos extent))
 
 pub record Theorems : Type 0 where
-  -- how far from its edge a word lies is the largest whole number not above word * extent / 2 ^ 32
+  -- the distance of a word from its edge is the largest whole number that is not above word * extent / 2 ^ 32
   pub floor : (extent word : ℕ) → (offset extent word * 2 ^ 32 ≤ word * extent) × (word * extent < suc (offset extent word) * 2 ^ 32)
-  -- so it lies before the other edge
-  pub inside : (extent word : ℕ) → 0 < extent → word < 2 ^ 32 → offset extent word < extent
+  -- every point of the unit square has its position in the region: left ≤ x < left + width and top ≤ y < top + height
+  pub inside : (r : Region) (x y : ℕ) → within r ≡ true → x < 2 ^ 32 → y < 2 ^ 32
+      → Inside (r .left) (r .width) (position-in r x y .x) × Inside (r .top) (r .height) (position-in r x y .y)

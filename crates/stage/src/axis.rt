@@ -1,17 +1,21 @@
-// One axis of a region: the limits of its edge and extent, and how far a coordinate's word lies from the edge.
+// One axis of a region: the limits of its edge and its extent, and the position of a coordinate on it.
 ghost use mathlib.Core.Path.{_≡_};
 ghost use mathlib.Core.Bool.{true};
 ghost use Prim.Native.Nat.{_≤_};
 ghost use Rattle.stage.specs.Position.{edge-within, extent-within, offset, position, largest-extent};
 
-// The limits of an edge, in µm.
+// An edge lies between these two, in µm.
 const SMALLEST_EDGE: i32 = -1000000;
 
 const LARGEST_EDGE: i32 = 1000000;
 
-// The largest width and height.
+// The largest width and the largest height, in µm.
 const LARGEST_EXTENT: u32 = 1000000;
 
+// A word divided by it is a coordinate of the unit square.
+const SCALE: u64 = 4294967296;
+
+// Whether an edge is within its limits.
 pub(crate) fn edge_within(edge: i32) -> bool
     ensures { λ r. ⌜ r ≡ edge-within edge ⌝ }
 {
@@ -24,6 +28,7 @@ pub(crate) fn edge_within(edge: i32) -> bool
     true
 }
 
+// Whether a width or a height is within its limits.
 pub(crate) fn extent_within(extent: u32) -> bool
     ensures { λ r. ⌜ r ≡ extent-within extent ⌝ }
 {
@@ -36,19 +41,20 @@ pub(crate) fn extent_within(extent: u32) -> bool
     true
 }
 
-// Multiplied and divided unsigned, in 64 bits.
+// The distance of a coordinate from the edge. The product of two words fits in 64 bits. Both numbers are unsigned, so the division
+// rounds down.
 fn offset(word: u32, extent: u32) -> u32
     ensures { λ r. ⌜ r ≡ offset extent word ⌝ }
 {
-    (word as u64 * extent as u64 / 4294967296) as u32
+    (word as u64 * extent as u64 / SCALE) as u32
 }
 
-// Added once, signed: the sum is not divided, so nothing is cut toward zero.
+// The position of a coordinate. The division comes before the signed sum: dividing a negative sum would round toward zero, that is up.
 pub(crate) fn position(edge: i32, extent: u32, word: u32) -> i32
     requires { ⌜ edge-within edge ≡ true ⌝ }
     requires { ⌜ extent ≤ largest-extent ⌝ }
     ensures { λ r. ⌜ r ≡ position edge extent word ⌝ }
 {
-    let right = offset(word, extent);
-    edge + right as i32
+    let distance = offset(word, extent);
+    edge + distance as i32
 }

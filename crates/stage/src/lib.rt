@@ -1,4 +1,4 @@
-// The stage: a region with its limits, and the position of a visit in it, in µm.
+// The stage: regions with their limits, and the positions of visits in them, in µm.
 mod axis;
 mod regions;
 

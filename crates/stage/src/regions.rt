@@ -1,10 +1,10 @@
-// A region of the stage, and positions in it.
+// A region of the stage, and the positions of points in it.
 use crate::axis;
 use refusal::Refusal;
 ghost use mathlib.Core.Path.{_≡_};
-ghost use Rattle.stage.specs.Region.{within, place-outcome, of-placed};
+ghost use Rattle.stage.specs.Region.{within, position-outcome, of-placed};
 
-// Edges and extents in µm. Down is the direction of growing y.
+// A rectangle, in µm. y grows downward.
 pub struct Region {
     pub left: i32,
     pub top: i32,
@@ -12,20 +12,20 @@ pub struct Region {
     pub height: u32,
 }
 
-// The corner of the reader's field.
+// Where the stage moves for a visit, in µm: the corner of the reader's field.
 pub struct Position {
     pub x: i32,
     pub y: i32,
 }
 
-// A position, or 10.
+// The answer of a position call: a position, or refusal 10.
 pub enum Placed {
     At(Position),
     Refused(Refusal),
 }
 
 impl Region {
-    // Whether edges and extents lie within their limits.
+    // Whether both edges and both extents are within their limits.
     pub fn within(self) -> bool
         ensures { λ r. ⌜ r ≡ within self ⌝ }
     {
@@ -43,9 +43,9 @@ impl Region {
         axis::extent_within(self.height)
     }
 
-    // Where the point with coordinate words x and y lies, or 10.
+    // The position of the point with coordinate words x and y. A region outside its limits is refused under 10.
     pub fn position(self, x: u32, y: u32) -> Placed
-        ensures { λ r. ⌜ of-placed r ≡ place-outcome self x y ⌝ }
+        ensures { λ r. ⌜ of-placed r ≡ position-outcome self x y ⌝ }
     {
         if !self.within() {
             return Placed::Refused(Refusal::Region);

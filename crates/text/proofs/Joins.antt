@@ -1,4 +1,4 @@
--- Pieces joined are the text.
+-- Pieces joined are the text: by induction on the calls.
 -- Assumes nothing.
 use mathlib.Core.Path.{_≡_, refl, sym, ap, _∙_}
 use mathlib.Core.List.{List, [], _++_, append-assoc, append-nil}

@@ -1,6 +1,6 @@
 pub mod Puts
 pub mod Numbers
-pub mod Signs
+pub mod Signed
 pub mod Back
 pub mod Parts
 pub mod Joins

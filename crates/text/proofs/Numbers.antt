@@ -1,4 +1,4 @@
--- The digits of a number by the cases of the code, and the lengths of texts.
+-- The lengths of texts, and their largest values.
 -- Assumes nothing.
 use mathlib.Core.Path.{_≡_}
 use mathlib.Core.Bool.{Bool, true, false, cond}
@@ -8,6 +8,7 @@ use native.Mathlib.Omega.{arith}
 use lib.Dec.{ltb}
 use lib.IntN.{ℤ, pos, negsuc, natAbs}
 use lib.ListN.{length, length-append}
+use Rattle.text.specs.Ascii.{digit-zero}
 use Rattle.text.specs.Decimal.{decimal-in, decimal, sign, number-text, signed-text, longest-number, longest-signed}
 
 decimal-length : (f n : ℕ) → length (decimal-in f n) ≤ suc f
@@ -15,10 +16,10 @@ unfolding decimal-in
 decimal-length zero n = omega arith
 decimal-length (suc f) n = go (ltb n 10) (decimal-length f (n / 10))
   where
-    go : (b : Bool) → length (decimal-in f (n / 10)) ≤ suc f → length (cond b ((48 + n) ∷ []) (decimal-in f (n / 10) ++ ((48 + n % 10) ∷ []))) ≤ suc
-        (suc f)
+    go : (b : Bool) → length (decimal-in f (n / 10)) ≤ suc f
+        → length (cond b ((digit-zero + n) ∷ []) (decimal-in f (n / 10) ++ ((digit-zero + n % 10) ∷ []))) ≤ suc (suc f)
     go true h = omega arith
-    go false h = omega (arith, length-append (decimal-in f (n / 10)) ((48 + n % 10) ∷ []))
+    go false h = omega (arith, length-append (decimal-in f (n / 10)) ((digit-zero + n % 10) ∷ []))
 
 pub number-length : (n last : ℕ) → length (number-text n last) ≡ length (decimal n) + 1
 unfolding number-text

@@ -1,23 +1,19 @@
 -- Text put into a buffer.
 use Prim.Native.Nat.{ℕ, _+_}
-use mathlib.Core.Path.{_≡_}
 use mathlib.Core.Bool.{cond}
-use mathlib.Core.List.{List, _++_}
+use mathlib.Core.List.{List}
 use lib.Dec.{leb}
-use lib.ListN.{length, take, drop}
+use lib.ListN.{length}
+use lib.Seq.{paste}
 
--- the buffer d with the text s from the place `at` on
+-- the buffer d with the text s from offset `at` on
 abbrev pub put : List ℕ → ℕ → List ℕ → List ℕ
-put d at s = take at d ++ (s ++ drop (at + length s) d)
+put d at s = paste d at s (length s)
 
--- what a writer of s has done: it ended at r, past the text, and the buffer e has the text
-abbrev pub Put : List ℕ → ℕ → List ℕ → ℕ → List ℕ → Type 0
-Put d at s r e = (r ≡ at + length s) × (e ≡ put d at s)
-
--- what a writer whose longest text has w bytes leaves in the buffer: the text where w bytes are left, and else all as it was
+-- the buffer after a writer whose longest text has w bytes: with the text where w bytes are left, and else as it was
 abbrev pub written : ℕ → List ℕ → ℕ → List ℕ → List ℕ
 written w d at s = cond (leb (at + w) (length d)) (put d at s) d
 
--- and where it ends: past the text, or where it began
+-- the offset that the writer hands back: past the text, or else the one that it got
 abbrev pub end : ℕ → List ℕ → ℕ → List ℕ → ℕ
 end w d at s = cond (leb (at + w) (length d)) (at + length s) at

@@ -2,6 +2,5 @@ pub mod Outcomes
 pub mod Loading
 pub mod Stepping
 pub mod Refusals
-pub mod Signs
 pub mod Copies
 pub mod Words

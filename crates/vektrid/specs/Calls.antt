@@ -14,8 +14,7 @@ use Rattle.stratify.specs.Answers.{query-outcome}
 use Rattle.unit.specs.declared.pairs.Singles.{Singles}
 use Rattle.unit.specs.declared.steps.SinglesVisit.{SinglesVisit}
 use Rattle.unit.specs.Singles.{singles-of, visit-singles}
-use Rattle.stage.specs.declared.regions.Position.{Position}
-use Rattle.stage.specs.Region.{place-outcome}
+use Rattle.stage.specs.declared.regions.Region.{Region}
 
 -- the points of a pair's words under a shift of two words
 abbrev pub points : List ℕ → ℕ → ℕ → Sequence
@@ -57,10 +56,9 @@ abbrev pub pair-query-outcome : List ℕ → (sx sy level m a c r k : ℕ) → O
 pair-query-outcome words sx sy level m a c r k =
     then (load-outcome words) (query-outcome (loaded words) (record { x = sx; y = sy }) level m a k c r)
 
--- a position in a region of these edges and extents
-abbrev pub position-outcome : (left top : ℤ) (width height x y : ℕ) → Outcome Position
-position-outcome left top width height x y =
-    place-outcome (record { left = left; top = top; width = width; height = height }) x y
+-- the region of these edges and extents; a position in it is the stage's `position-outcome`
+abbrev pub region-of : (left top : ℤ) (width height : ℕ) → Region
+region-of left top width height = record { left = left; top = top; width = width; height = height }
 
 -- the words of the standard pair, where there are 64
 abbrev pub standard-words : List ℕ → List ℕ

@@ -6,9 +6,8 @@ use Prim.Native.Nat.{ℕ}
 use lib.Dec.{eqb}
 use lib.IntN.{ℤ}
 use lib.ListN.{getD, drop}
-use mir.Syntax.{w32}
-use mir.Val.{toZ}
 use Rattle.refusal.specs.Outcome.{Outcome, accepted, refused}
+use Rattle.signed.specs.Words.{cast-signed}
 use Rattle.visits.specs.declared.file_walks.FileVisit.{FileVisit}
 use Rattle.visits.specs.declared.file_walks.FileWalk.{FileWalk}
 use Rattle.visits.specs.FileWalk.{to-come}
@@ -22,7 +21,7 @@ walk-of ws = record {
   number = getD ws 0 0;
   planned = record {
     next = getD ws 1 0;
-    region = record { left = toZ w32 (getD ws 2 0); top = toZ w32 (getD ws 3 0); width = getD ws 4 0; height = getD ws 5 0 };
+    region = record { left = cast-signed (getD ws 2 0); top = cast-signed (getD ws 3 0); width = getD ws 4 0; height = getD ws 5 0 };
     shift = record { x = getD ws 6 0; y = getD ws 7 0 };
     count = getD ws 8 0;
   };

@@ -2,14 +2,13 @@
 use crate::answers::number_of;
 use plan::Shift;
 use region_file::Record;
-use region_file::signed;
+use signed::cast_signed;
+use signed::cast_unsigned;
 use stage::Region;
 use visits::FileWalk;
 use visits::Opened;
 use visits::Step;
 ghost use mathlib.Core.Path.{_≡_};
-ghost use mir.Syntax.{w32};
-ghost use mir.Val.{toZ};
 ghost use Rattle.region_file.specs.Judge.{judge-outcome, most-visits};
 ghost use Rattle.visits.specs.Visits.{visits-outcome};
 ghost use Rattle.vektrid.specs.Answers.{answer};
@@ -17,16 +16,6 @@ ghost use Rattle.vektrid.specs.Words.{walk-of, coming, Opens, others, vi
 
 // The words of a walk.
 pub(crate) type FileWalkWords = [u32; 11];
-
-// A number in two's complement.
-fn unsigned(z: i32) -> u32
-    ensures { λ r. ⌜ toZ w32 r ≡ z ⌝ }
-{
-    if z < 0 {
-        return 4294967295 - (-1 - z) as u32;
-    }
-    z as u32
-}
 
 pub(crate) fn walk_of(words: FileWalkWords) -> FileWalk
     ensures { λ r. ⌜ r ≡ walk-of words ⌝ }
@@ -36,8 +25,8 @@ pub(crate) fn walk_of(words: FileWalkWords) -> FileWalk
         planned: Record {
             next: words[1],
             region: Region {
-                left: signed(words[2]),
-                top: signed(words[3]),
+                left: cast_signed(words[2]),
+                top: cast_signed(words[3]),
                 width: words[4],
                 height: words[5],
             },
@@ -63,8 +52,8 @@ pub(crate) fn words_of(walk: FileWalk) -> FileWalkWords
     [
         walk.number,
         planned.next,
-        unsigned(left),
-        unsigned(top),
+        cast_unsigned(left),
+        cast_unsigned(top),
         region.width,
         region.height,
         shift.x,

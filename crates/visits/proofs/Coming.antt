@@ -22,7 +22,7 @@ use Rattle.visits.specs.declared.file_walks.FileVisit.{FileVisit}
 use Rattle.visits.specs.declared.file_walks.FileWalk.{FileWalk}
 use Rattle.visits.specs.Visits.{planned, position-of, visit, stretch, numbers, of-records}
 use Rattle.visits.specs.FileWalk.{listable, from, to-come, leading-to, ended}
-use Rattle.visits.specs.Stepping.{position-outcome, past}
+use Rattle.visits.specs.Stepping.{visit-position-outcome, past}
 
 -- a stretch of some visits, and of none
 stretch-more : (n : ℕ) (r : Record) (i k : ℕ) → 0 < k → stretch n r i k ≡ visit n r i ∷ stretch n r (i + 1) (k - 1)
@@ -63,14 +63,15 @@ listable-within file n e = go (not (eqb n 0)) (not (leb (records file) n)) e
 
 -- ---- a visit's position
 
-pub refused-outside : (r : Record) (i : ℕ) {k : ℕ} {vs : List ℕ} → position-outcome r i ≡ refused k vs → within (r .region) ≡ false
+pub refused-outside : (r : Record) (i : ℕ) {k : ℕ} {vs : List ℕ} → visit-position-outcome r i ≡ refused k vs → within (r .region) ≡ false
 refused-outside r i e = go (within (r .region)) refl
   where
     go : (b : Bool) → within (r .region) ≡ b → within (r .region) ≡ false
     go false h = h
     go true h = absurd (accepted-refused (sym (first-passes (accepted (position-of r i)) 10 [] (ap not h) ∙ first-none _) ∙ e))
 
-pub accepted-inside : (r : Record) (i : ℕ) {p : Position} → position-outcome r i ≡ accepted p → (within (r .region) ≡ true) × (position-of r i ≡ p)
+pub accepted-inside : (r : Record) (i : ℕ) {p : Position} → visit-position-outcome r i ≡ accepted p
+    → (within (r .region) ≡ true) × (position-of r i ≡ p)
 accepted-inside r i e =
     let h = first-accepted (accepted (position-of r i)) 10 [] (not (within (r .region))) e in
     (not-false _ (h .0), accepted-same (sym (first-none _) ∙ h .1))

@@ -16,8 +16,8 @@ use Rattle.visits.specs.Visits.{position-of, visit}
 use Rattle.visits.specs.FileWalk.{from, to-come}
 
 -- where the visit with index i of a record lies, or 10
-abbrev pub position-outcome : Record → ℕ → Outcome Position
-position-outcome r i = first (outside (r .region) ∷ []) (accepted (position-of r i))
+abbrev pub visit-position-outcome : Record → ℕ → Outcome Position
+visit-position-outcome r i = first (outside (r .region) ∷ []) (accepted (position-of r i))
 
 -- the walk past one visit
 abbrev pub past : FileWalk → FileWalk

@@ -8,7 +8,7 @@ use Rattle.ranges.specs.Range.{range}
 use Rattle.refusal.specs.Outcome.{Outcome, accepted, then}
 use Rattle.plan.specs.Pair.{sequence, standard-pair}
 use Rattle.stage.specs.declared.regions.Position.{Position}
-use Rattle.stage.specs.Region.{place}
+use Rattle.stage.specs.Region.{position-in}
 use Rattle.region_file.specs.declared.fields.Record.{Record}
 use Rattle.region_file.specs.Fields.{record-at, first-record, most-records}
 use Rattle.region_file.specs.Judge.{judge-outcome, most-visits}
@@ -20,7 +20,7 @@ planned file n = record-at file n
 
 -- where the visit with index i of a record lies
 unfoldable pub position-of : Record → ℕ → Position
-position-of r i = let p = point (sequence standard-pair (r .shift)) i in place (r .region) (p .0) (p .1)
+position-of r i = let p = point (sequence standard-pair (r .shift)) i in position-in (r .region) (p .0) (p .1)
 
 -- the visit with index i of the record r, whose number is n
 abbrev pub visit : ℕ → Record → ℕ → FileVisit

@@ -7,10 +7,10 @@ use refusal::Refusal;
 use region_file::Record;
 use stage::Placed;
 ghost use mathlib.Core.Path.{_≡_};
-ghost use Rattle.visits.specs.Visits.{visits-outcome};
 ghost use Rattle.stage.specs.Region.{of-placed};
+ghost use Rattle.visits.specs.Visits.{visits-outcome};
 ghost use Rattle.visits.specs.FileWalk.{Gives, of-opened, ended};
-ghost use Rattle.visits.specs.Stepping.{position-outcome, here};
+ghost use Rattle.visits.specs.Stepping.{visit-position-outcome, here};
 
 // A visit of a file: the number of its record, its index there, and its position in µm (plan's `FileVisit` has the point).
 pub struct FileVisit {
@@ -48,7 +48,7 @@ pub enum Opened {
 
 // Where the visit with an index of a record lies, or 10.
 fn position_of(planned: Record, index: u32) -> Placed
-    ensures { λ r. ⌜ of-placed r ≡ position-outcome planned index ⌝ }
+    ensures { λ r. ⌜ of-placed r ≡ visit-position-outcome planned index ⌝ }
 {
     let region = planned.region;
     let point = Plan::standard_point(planned.shift, index);

@@ -7,9 +7,10 @@ use native.Mathlib.Nat.{zero-add}
 use native.Mathlib.Omega.{arith}
 use denote.Ref.{now}
 use lib.ListN.{length}
+use Rattle.text.specs.Ascii.{line-feed}
 use Rattle.text.specs.Decimal.{number-text, longest-number}
-use Rattle.text.specs.Put.{put, Put}
-use Rattle.text.proofs.Puts.{put-nothing, put-keeps, put-then, wrote-put}
+use Rattle.text.specs.Put.{put}
+use Rattle.text.proofs.Puts.{Writes, put-nothing, writes-keeps-length, writes-then, from-if-room}
 use Rattle.text.proofs.Numbers.{number-longest}
 use Rattle.listing.specs.declared.cursors.Lead.{Lead}
 use Rattle.listing.specs.Listing.{header, refused-word, refused-text}
@@ -46,7 +47,7 @@ number-requires c κs = search needs
 abbrev Led : List ℕ → List ℕ → ℕ → List ℕ → Type 0
 Led d s r e = (r ≡ length s) × (e ≡ put d 0 s)
 
-led : (d s : List ℕ) (r : ℕ) (e : List ℕ) → Put d 0 s r e → Led d s r e
+led : (d s : List ℕ) (r : ℕ) (e : List ℕ) → Writes d 0 s r e → Led d s r e
 led d s r e p = (p .0 ∙ zero-add (length s), p .1)
 
 returns : tie.Need-returns
@@ -63,7 +64,7 @@ returns-2 c =
     let u = c .before .before .bytes in
     subst (λ (k : Lead). Led d (lead-text k) (u .result) (u .last .1 .0)) (sym (c .before .before .before .before .before .enum-told2 .given .1))
     (led d header (u .result) (u .last .1 .0)
-    (wrote-put (length header) d 0 header (u .result) (u .last .1 .0)
+    (from-if-room (length header) d 0 header (u .result) (u .last .1 .0)
     (omega (arith, c .before .before .before .before .before .before .before .before .pre)) (u .ensures)))
 
 same-length-2 : tie.Need-same-length-2
@@ -77,22 +78,22 @@ returns-3 c =
     let u = c .before .before .before .before .before .before .bytes2 in
     let v = c .before .before .number in
     let n = c .before .before .before .before .before .before .before .before .before .before .lead .given .0 .0 in
-    let p : Put d 0 refused-word (u .result) (u .last .1 .0) = wrote-put 8 d 0 refused-word (u .result) (u .last .1 .0)
+    let p : Writes d 0 refused-word (u .result) (u .last .1 .0) = from-if-room 8 d 0 refused-word (u .result) (u .last .1 .0)
     (omega (arith, c .before .before .before .before .before .before .before .before .before .before .before .before .before .pre)) (u .ensures) in
-    let l : length (u .last .1 .0) ≡ length d = put-keeps d 0 refused-word (u .result) (u .last .1 .0) p
+    let l : length (u .last .1 .0) ≡ length d = writes-keeps-length d 0 refused-word (u .result) (u .last .1 .0) p
     (omega (arith, c .before .before .before .before .before .before .before .before .before .before .before .before .before .pre)) in
-    let q : Put (u .last .1 .0) (u .result) (number-text n 10) (v .result) (v .last .1 .1 .0) =
-    wrote-put longest-number (u .last .1 .0) (u .result) (number-text n 10) (v .result) (v .last .1 .1 .0)
+    let q : Writes (u .last .1 .0) (u .result) (number-text n line-feed) (v .result) (v .last .1 .1 .0) =
+    from-if-room longest-number (u .last .1 .0) (u .result) (number-text n line-feed) (v .result) (v .last .1 .1 .0)
     (omega (arith, c .before .before .before .before .before .before .before .before .before .before .before .before .before .pre, p .0, l))
     (v .ensures) in
     subst (λ (k : Lead). Led d (lead-text k) (v .result) (v .last .1 .1 .0))
     (sym (c .before .before .before .before .before .before .before .before .before .before .lead .given .1))
     (led d (refused-text n) (v .result) (v .last .1 .1 .0)
-    (put-then d 0 refused-word (number-text n 10) (u .result) (u .last .1 .0) (v .result) (v .last .1 .1 .0) p q
+    (writes-then d 0 refused-word (number-text n line-feed) (u .result) (u .last .1 .0) (v .result) (v .last .1 .1 .0) p q
     (omega (
       arith,
       c .before .before .before .before .before .before .before .before .before .before .before .before .before .pre,
-      number-longest n 10,
+      number-longest n line-feed,
     ))))
 
 pub put-lead-spec : {M : Type 1} → statement M

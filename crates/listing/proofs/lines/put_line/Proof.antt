@@ -6,8 +6,9 @@ use lib.IntN.{ℤ}
 use mir.Syntax.{w32}
 use mir.Val.{SFits}
 use mir.ValLaws.{toZ-ofZ}
+use Rattle.text.specs.Ascii.{line-feed, blank}
 use Rattle.text.specs.Decimal.{signed-text, longest-signed}
-use Rattle.text.proofs.Puts.{Wrote}
+use Rattle.text.proofs.Puts.{WritesIfRoom}
 use Rattle.listing.proofs.Putting.{line-put}
 use borrow.Author.Needs.{needs}
 use Rattle.listing.proofs.lines.put_line.Statement.{statement}
@@ -46,9 +47,9 @@ returns c =
     (c .before .before .before .before .before .before .before .before .before .before .before .before .before .before .before .before .before
     .before .before .pre)
     (n .ensures) (i .ensures)
-    (subst (λ (z : ℤ). Wrote longest-signed (i .last .1 .1 .0) (i .result) (signed-text z 32) (x .result) (x .last .1 .1 .0))
+    (subst (λ (z : ℤ). WritesIfRoom longest-signed (i .last .1 .1 .0) (i .result) (signed-text z blank) (x .result) (x .last .1 .1 .0))
     (toZ-ofZ w32 (v .x) fx) (x .ensures))
-    (subst (λ (z : ℤ). Wrote longest-signed (x .last .1 .1 .0) (x .result) (signed-text z 10) (y .result) (y .last .1 .1 .0))
+    (subst (λ (z : ℤ). WritesIfRoom longest-signed (x .last .1 .1 .0) (x .result) (signed-text z line-feed) (y .result) (y .last .1 .1 .0))
     (toZ-ofZ w32 (v .y) fy) (y .ensures))
 
 pub put-line-spec : {M : Type 1} → statement M

@@ -4,8 +4,8 @@ use mathlib.Core.Path.{_≡_, ap, ap₂, _∙_}
 use Prim.Native.Nat.{ℕ}
 use lib.IntN.{ℤ}
 use mir.Syntax.{w32}
-use mir.Val.{toZ}
 use mir.ValLaws.{toZ-ofZ}
+use Rattle.signed.specs.Words.{cast-signed}
 use Rattle.stage.specs.declared.regions.Region.{Region}
 use Rattle.region_file.specs.Fields.{record-at}
 use borrow.Author.Needs.{needs}
@@ -18,11 +18,11 @@ field-requires c κs = search needs
 field-requires-2 : tie.Need-field-requires-2
 field-requires-2 c κs = search needs
 
-signed-requires : tie.Need-signed-requires
-signed-requires c κs = search needs
+cast-signed-requires : tie.Need-cast-signed-requires
+cast-signed-requires c κs = search needs
 
-signed-requires-2 : tie.Need-signed-requires-2
-signed-requires-2 c κs = search needs
+cast-signed-requires-2 : tie.Need-cast-signed-requires-2
+cast-signed-requires-2 c κs = search needs
 
 field-requires-3 : tie.Need-field-requires-3
 field-requires-3 c κs = search needs
@@ -39,11 +39,11 @@ made-same {l} {l′} {t} {t′} {w} {w′} {h} {h′} p q r s = ap₂ (λ (x y :
 returns : tie.Need-returns
 unfolding record-at
 returns c =
-    let l = c .before .before .before .signed in
-    let t = c .before .before .signed2 in
-    made-same (toZ-ofZ w32 (l .result) (record { sfits = l .ok }) ∙ l .ensures ∙ ap (toZ w32)
+    let l = c .before .before .before .cast-signed in
+    let t = c .before .before .cast-signed2 in
+    made-same (toZ-ofZ w32 (l .result) (record { sfits = l .ok }) ∙ l .ensures ∙ ap cast-signed
     (c .before .before .before .before .before .field .ensures))
-    (toZ-ofZ w32 (t .result) (record { sfits = t .ok }) ∙ t .ensures ∙ ap (toZ w32) (c .before .before .before .before .field2 .ensures))
+    (toZ-ofZ w32 (t .result) (record { sfits = t .ok }) ∙ t .ensures ∙ ap cast-signed (c .before .before .before .before .field2 .ensures))
     (c .before .field3 .ensures)
     (c .field4 .ensures)
 
@@ -53,8 +53,8 @@ region-at-spec =
     (tie.spec
     field-requires
     field-requires-2
-    signed-requires
-    signed-requires-2
+    cast-signed-requires
+    cast-signed-requires-2
     field-requires-3
     field-requires-4
     returns)

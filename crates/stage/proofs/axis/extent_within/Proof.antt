@@ -1,4 +1,4 @@
--- `axis::extent_within` meets its contract.
+-- `axis::extent_within`: its tests are the definition's, in the same order.
 -- Assumes nothing.
 use borrow.Author.Tests.{lt-ltb, le-ltb}
 use Rattle.stage.proofs.axis.extent_within.Statement.{statement}

@@ -1,4 +1,4 @@
--- `axis::offset` meets its contract.
+-- `axis::offset`: the product is below 2^64, and its quotient is at most the extent.
 -- Assumes nothing.
 use native.Mathlib.Omega.{arith}
 use Rattle.stage.proofs.Sums.{product-fits, offset-le}

@@ -1,4 +1,4 @@
--- `axis::position` meets its contract.
+-- `axis::position`: the sum fits, because the offset is at most the extent and both numbers are within their limits.
 -- Assumes nothing.
 use mathlib.Core.Path.{sym, ap, _∙_, subst}
 use Prim.Native.Nat.{ℕ, _≤_}

@@ -1,10 +1,10 @@
--- `fields::bytes` meets its contract.
+-- `fields::bytes`: the text is its own longest text, so where there is room, all of it is copied.
 -- Assumes nothing.
 use mathlib.Core.Path.{sym, _∙_}
 use denote.Ref.{now}
 use lib.ListN.{length}
 use borrow.Author.Tests.{not-true, not-false, leb-true}
-use Rattle.text.proofs.Puts.{wrote-nothing, put-wrote}
+use Rattle.text.proofs.Puts.{without-room, to-if-room}
 use borrow.Author.Needs.{needs}
 use Rattle.text.proofs.fields.bytes.Statement.{statement}
 use Rattle.text.proofs.fields.bytes.Tie as tie
@@ -15,7 +15,7 @@ has-room-requires c κs = search needs
 returns : tie.Need-returns
 returns c =
     let a = c .before .before .before .before .args in
-    wrote-nothing (length (now (a .text))) (now (a .out)) (a .at) (now (a .text)) (sym (c .before .has-room .ensures) ∙ not-true _ (c .if1 .taken))
+    without-room (length (now (a .text))) (now (a .out)) (a .at) (now (a .text)) (sym (c .before .has-room .ensures) ∙ not-true _ (c .if1 .taken))
 
 copy-requires : tie.Need-copy-requires
 copy-requires c κs = leb-true _ _ (sym (c .before .before .has-room .ensures) ∙ not-false _ (c .before .if1 .left))
@@ -27,7 +27,7 @@ returns-2 : tie.Need-returns-2
 returns-2 c =
     let a = c .before .before .before .before .before .before .before .before .args in
     let u = c .before .before .copy in
-    put-wrote (length (now (a .text))) (now (a .out)) (a .at) (now (a .text)) (u .result) (u .last .1 .0)
+    to-if-room (length (now (a .text))) (now (a .out)) (a .at) (now (a .text)) (u .result) (u .last .1 .0)
     (sym (c .before .before .before .before .before .has-room .ensures) ∙ not-false _ (c .before .before .before .before .if1 .left)) (u .ensures)
 
 pub bytes-spec : {M : Type 1} → statement M

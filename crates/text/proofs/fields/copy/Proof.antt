@@ -1,26 +1,25 @@
--- `fields::copy` meets its contract: after i turns the first i bytes are put.
+-- `fields::copy`: after i turns the first i bytes of the text are pasted.
 -- Assumes nothing.
 use mathlib.Core.Path.{_≡_, refl, sym, ap, _∙_}
 use mathlib.Core.List.{List}
 use Prim.Native.Nat.{ℕ, _+_, _-_, _≤_}
+use native.Mathlib.Numerals.{add-one}
 use native.Mathlib.Omega.{arith}
 use denote.Ref.{now}
-use lib.ListN.{length, take, set, getD, length-set}
-use lib.Seq.{take-all}
+use lib.ListN.{length, set, getD, length-set}
+use lib.Seq.{paste, paste-zero, paste-suc}
 use borrow.Author.Needs.{needs}
-use Rattle.text.specs.Put.{put}
-use Rattle.text.proofs.Puts.{put-nothing, put-next}
 use Rattle.text.proofs.fields.copy.Statement.{statement}
 use Rattle.text.proofs.fields.copy.Tie as tie
 
 abbrev Inv-loop : tie.InvT-loop
-Inv-loop text out₀ at i₀ out i = (i ≤ length text) × (length out ≡ length out₀) × (out ≡ put out₀ at (take i text))
+Inv-loop text out₀ at i₀ out i = (i ≤ length text) × (length out ≡ length out₀) × (out ≡ paste out₀ at text i)
 
 abbrev μ-loop : tie.MeasureT-loop
 μ-loop text out₀ at i₀ out i = length text - i
 
 loop-holds : tie.Need-loop-holds Inv-loop μ-loop
-loop-holds c = (search needs, refl, sym (put-nothing (now (c .args .out)) (c .args .at)))
+loop-holds c = (search needs, refl, paste-zero (now (c .args .out)) (c .args .at) (now (c .args .text)))
 
 shared-slice-read-out : tie.Need-shared-slice-read-out Inv-loop μ-loop
 shared-slice-read-out c = search needs
@@ -44,8 +43,9 @@ loop-again c =
     let x = getD (now (a .text)) (i .i) 0 in (
       omega arith,
       length-set (i .out) (a .at + i .i) x ∙ i .inv .1,
-      ap (λ (l : List ℕ). set l (a .at + i .i) x) (i .inv .2) ∙ put-next (now (a .out)) (now (a .text)) (a .at) (i .i) (c .before .loop-test .taken)
-          (c .before .before .before .pre),
+      ap (λ (l : List ℕ). set l (a .at + i .i) x) (i .inv .2)
+          ∙ paste-suc (now (a .out)) (a .at) (now (a .text)) (i .i) 0 (search needs) (c .before .loop-test .taken)
+          ∙ ap (paste (now (a .out)) (a .at) (now (a .text))) (sym (add-one (i .i))),
     )
 
 add-result : tie.Need-add-result Inv-loop μ-loop
@@ -58,7 +58,8 @@ returns : tie.Need-returns Inv-loop μ-loop
 returns c =
     let a = c .before .before .args in
     let i = c .before .loop in
-    (omega arith, i .inv .2 ∙ ap (put (now (a .out)) (a .at)) (take-all (i .i) (now (a .text)) (c .loop-test .left)))
+    let all : i .i ≡ length (now (a .text)) = omega arith in
+    (omega arith, i .inv .2 ∙ ap (paste (now (a .out)) (a .at) (now (a .text))) all)
 
 pub copy-spec : {M : Type 1} → statement M
 copy-spec =

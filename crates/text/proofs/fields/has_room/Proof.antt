@@ -1,4 +1,4 @@
--- `fields::has_room` meets its contract.
+-- `fields::has_room`: at + n ≤ length is n ≤ length and at ≤ length - n.
 -- Assumes nothing.
 use mathlib.Core.Path.{sym}
 use Prim.Native.Nat.{_+_}

@@ -1,4 +1,4 @@
--- `fields::number` meets its contract.
+-- `fields::number`: room for the longest number is room for this one.
 -- Assumes nothing.
 use mathlib.Core.Path.{_≡_, sym, _∙_}
 use mathlib.Core.Bool.{true}
@@ -9,7 +9,7 @@ use lib.Dec.{leb}
 use lib.ListN.{length}
 use borrow.Author.Tests.{not-true, not-false, leb-true}
 use Rattle.text.specs.Decimal.{number-text, longest-number}
-use Rattle.text.proofs.Puts.{wrote-nothing, put-wrote}
+use Rattle.text.proofs.Puts.{without-room, to-if-room}
 use Rattle.text.proofs.Numbers.{number-longest}
 use borrow.Author.Needs.{needs}
 use Rattle.text.proofs.fields.number.Statement.{statement}
@@ -21,7 +21,7 @@ has-room-requires c κs = search needs
 returns : tie.Need-returns
 returns c =
     let a = c .before .before .before .args in
-    wrote-nothing longest-number (now (a .out)) (a .at) (number-text (a .n) (a .last))
+    without-room longest-number (now (a .out)) (a .at) (number-text (a .n) (a .last))
     (sym (c .before .has-room .ensures) ∙ not-true _ (c .if1 .taken))
 
 room : (c : tie.Else1) → leb (c .before .before .before .args .at + longest-number) (length (now (c .before .before .before .args .out))) ≡ true
@@ -42,7 +42,7 @@ returns-2 : tie.Need-returns-2
 returns-2 c =
     let a = c .before .before .before .before .before .before .before .args in
     let u = c .before .before .put-number in
-    put-wrote longest-number (now (a .out)) (a .at) (number-text (a .n) (a .last)) (u .result) (u .last .1 .1 .0)
+    to-if-room longest-number (now (a .out)) (a .at) (number-text (a .n) (a .last)) (u .result) (u .last .1 .1 .0)
     (room (c .before .before .before .before)) (u .ensures)
 
 pub number-spec : {M : Type 1} → statement M

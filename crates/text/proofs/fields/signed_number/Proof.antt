@@ -1,4 +1,4 @@
--- `fields::signed_number` meets its contract.
+-- `fields::signed_number`: room for the longest signed number is room for the sign and for the magnitude after it.
 -- Assumes nothing.
 use mathlib.Core.Path.{_≡_, sym, ap, _∙_, subst}
 use mathlib.Core.Bool.{true}
@@ -13,8 +13,7 @@ use mir.Val.{toZ, ofZ}
 use mir.ValLaws.{toZ-ofZ}
 use borrow.Author.Tests.{not-true, not-false, leb-true}
 use Rattle.text.specs.Decimal.{sign, number-text, signed-text, longest-signed}
-use Rattle.text.specs.Put.{Put}
-use Rattle.text.proofs.Puts.{put-then, wrote-nothing, put-wrote}
+use Rattle.text.proofs.Puts.{Writes, writes-then, without-room, to-if-room}
 use Rattle.text.proofs.Numbers.{signed-length, signed-longest}
 use borrow.Author.Needs.{needs}
 use Rattle.text.proofs.fields.signed_number.Statement.{statement}
@@ -26,11 +25,11 @@ has-room-requires c κs = search needs
 returns : tie.Need-returns
 returns c =
     let a = c .before .before .before .args in
-    wrote-nothing longest-signed (now (a .out)) (a .at) (signed-text (a .z) (a .last))
+    without-room longest-signed (now (a .out)) (a .at) (signed-text (a .z) (a .last))
     (sym (c .before .has-room .ensures) ∙ not-true _ (c .if1 .taken))
 
-magnitude-requires : tie.Need-magnitude-requires
-magnitude-requires c κs = search needs
+unsigned-abs-requires : tie.Need-unsigned-abs-requires
+unsigned-abs-requires c κs = search needs
 
 room : (c : tie.Else1) → leb (c .before .before .before .args .at + longest-signed) (length (now (c .before .before .before .args .out))) ≡ true
 room c = sym (c .before .has-room .ensures) ∙ not-false _ (c .if1 .left)
@@ -59,7 +58,7 @@ put-number-requires c κs =
       u .kept .1 .0,
       ap (λ (z : ℤ). length (sign z)) e,
       ap (λ (k : ℕ). length (number-text k (a .last)))
-          (c .before .before .before .before .before .magnitude .ensures ∙ ap natAbs e),
+          (c .before .before .before .before .before .unsigned-abs .ensures ∙ ap natAbs e),
     )
 
 same-length : tie.Need-same-length
@@ -73,12 +72,13 @@ returns-2 c =
     let v = c .before .before .put-number in
     let e : toZ w32 (ofZ w32 (a .z)) ≡ a .z = toZ-ofZ w32 (a .z)
     (c .before .before .before .before .before .before .before .before .before .before .before .before .fits .z) in
-    let m = c .before .before .before .before .before .before .before .before .magnitude .ensures ∙ ap natAbs e in
-    put-wrote longest-signed (now (a .out)) (a .at) (signed-text (a .z) (a .last)) (v .result) (v .last .1 .1 .0)
+    let m = c .before .before .before .before .before .before .before .before .unsigned-abs .ensures ∙ ap natAbs e in
+    to-if-room longest-signed (now (a .out)) (a .at) (signed-text (a .z) (a .last)) (v .result) (v .last .1 .1 .0)
     (room (c .before .before .before .before .before .before .before .before .before))
-    (put-then (now (a .out)) (a .at) (sign (a .z)) (number-text (natAbs (a .z)) (a .last)) (u .result) (u .last .1 .0) (v .result) (v .last .1 .1 .0)
-    (subst (λ (z : ℤ). Put (now (a .out)) (a .at) (sign z) (u .result) (u .last .1 .0)) e (u .ensures))
-    (subst (λ (k : ℕ). Put (u .last .1 .0) (u .result) (number-text k (a .last)) (v .result) (v .last .1 .1 .0)) m (v .ensures))
+    (writes-then (now (a .out)) (a .at) (sign (a .z)) (number-text (natAbs (a .z)) (a .last)) (u .result) (u .last .1 .0) (v .result)
+    (v .last .1 .1 .0)
+    (subst (λ (z : ℤ). Writes (now (a .out)) (a .at) (sign z) (u .result) (u .last .1 .0)) e (u .ensures))
+    (subst (λ (k : ℕ). Writes (u .last .1 .0) (u .result) (number-text k (a .last)) (v .result) (v .last .1 .1 .0)) m (v .ensures))
     (omega (
       arith,
       left (c .before .before .before .before .before .before .before .before .before),
@@ -93,7 +93,7 @@ signed-number-spec =
     (tie.spec
     has-room-requires
     returns
-    magnitude-requires
+    unsigned-abs-requires
     put-sign-requires
     put-number-requires
     same-length

@@ -1,4 +1,4 @@
--- `groups::put_byte` meets its contract.
+-- `groups::put_byte`: setting an element is putting a text of one byte.
 -- Assumes nothing.
 use mathlib.Core.Path.{refl}
 use denote.Ref.{now}

@@ -1,10 +1,10 @@
--- `groups::put_bytes` meets its contract.
+-- `groups::put_bytes`: two texts of one byte, one after the other.
 -- Assumes nothing.
 use mathlib.Core.List.{[], _∷_}
 use Prim.Native.Nat.{_/_, _%_}
 use native.Mathlib.Omega.{arith}
 use denote.Ref.{now}
-use Rattle.text.proofs.Puts.{put-then}
+use Rattle.text.proofs.Puts.{writes-then}
 use borrow.Author.Needs.{needs}
 use Rattle.text.proofs.groups.put_bytes.Statement.{statement}
 use Rattle.text.proofs.groups.put_bytes.Tie as tie
@@ -29,7 +29,7 @@ returns c =
     let a = c .before .before .before .before .before .before .before .before .before .args in
     let u = c .before .before .before .before .before .before .put-byte in
     let v = c .before .before .put-byte2 in
-    put-then (now (a .out)) (a .at) ((a .word % 256) ∷ []) ((a .word / 256) ∷ []) (u .result) (u .last .1 .0) (v .result) (v .last .1 .0)
+    writes-then (now (a .out)) (a .at) ((a .word % 256) ∷ []) ((a .word / 256) ∷ []) (u .result) (u .last .1 .0) (v .result) (v .last .1 .0)
     (u .ensures) (v .ensures) (omega (arith, c .before .before .before .before .before .before .before .before .before .pre .1))
 
 pub put-bytes-spec : {M : Type 1} → statement M

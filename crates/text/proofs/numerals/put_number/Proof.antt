@@ -1,10 +1,10 @@
--- `numerals::put_number` meets its contract.
+-- `numerals::put_number`: the digits and then one byte.
 -- Assumes nothing.
 use mathlib.Core.List.{[], _∷_}
 use native.Mathlib.Omega.{arith}
 use denote.Ref.{now}
 use Rattle.text.specs.Decimal.{decimal, number-text}
-use Rattle.text.proofs.Puts.{put-then}
+use Rattle.text.proofs.Puts.{writes-then}
 use Rattle.text.proofs.Numbers.{number-length}
 use borrow.Author.Needs.{needs}
 use Rattle.text.proofs.numerals.put_number.Statement.{statement}
@@ -28,7 +28,8 @@ returns c =
     let a = c .before .before .before .before .before .before .before .before .before .args in
     let u = c .before .before .before .before .before .before .put-decimal in
     let v = c .before .before .put-byte in
-    put-then (now (a .out)) (a .at) (decimal (a .n)) (a .last ∷ []) (u .result) (u .last .1 .0) (v .result) (v .last .1 .0) (u .ensures) (v .ensures)
+    writes-then (now (a .out)) (a .at) (decimal (a .n)) (a .last ∷ []) (u .result) (u .last .1 .0) (v .result) (v .last .1 .0)
+    (u .ensures) (v .ensures)
     (omega (arith, c .before .before .before .before .before .before .before .before .before .pre, number-length (a .n) (a .last)))
 
 pub put-number-spec : {M : Type 1} → statement M

@@ -15,17 +15,17 @@ array-read-t5 c = search needs
 array-read-t8 : tie.Need-array-read-t8
 array-read-t8 c = search needs
 
-array-read-signed : tie.Need-array-read-signed
-array-read-signed c = search needs
+array-read-cast-signed : tie.Need-array-read-cast-signed
+array-read-cast-signed c = search needs
 
-signed-requires : tie.Need-signed-requires
-signed-requires c κs = search needs
+cast-signed-requires : tie.Need-cast-signed-requires
+cast-signed-requires c κs = search needs
 
-array-read-signed-2 : tie.Need-array-read-signed-2
-array-read-signed-2 c = search needs
+array-read-cast-signed-2 : tie.Need-array-read-cast-signed-2
+array-read-cast-signed-2 c = search needs
 
-signed-requires-2 : tie.Need-signed-requires-2
-signed-requires-2 c κs = search needs
+cast-signed-requires-2 : tie.Need-cast-signed-requires-2
+cast-signed-requires-2 c κs = search needs
 
 array-read-t19 : tie.Need-array-read-t19
 array-read-t19 c = search needs
@@ -50,8 +50,8 @@ array-read-t40 c = search needs
 
 returns : tie.Need-returns
 returns c =
-    let l = c .before .signed in
-    let t = c .signed2 in
+    let l = c .before .cast-signed in
+    let t = c .cast-signed2 in
     ap₂ (edged (walk-of (c .before .before .args .t1))) (toZ-ofZ w32 (l .result) (record { sfits = l .ok }) ∙ l .ensures)
     (toZ-ofZ w32 (t .result) (record { sfits = t .ok }) ∙ t .ensures)
 
@@ -61,10 +61,10 @@ walk-of-spec =
     (tie.spec
     array-read-t5
     array-read-t8
-    array-read-signed
-    signed-requires
-    array-read-signed-2
-    signed-requires-2
+    array-read-cast-signed
+    cast-signed-requires
+    array-read-cast-signed-2
+    cast-signed-requires-2
     array-read-t19
     array-read-t22
     array-read-t26

@@ -1,23 +1,25 @@
--- `positions::vektrid_position` meets its contract.
+-- `positions::vektrid_position`: the region is made of edges that read back from their bits.
 -- Assumes nothing.
-use mathlib.Core.Path.{_≡_, sym, ap, _∙_}
+use mathlib.Core.Path.{_≡_, sym, ap, ap₂, _∙_}
+use lib.IntN.{ℤ}
 use mir.Syntax.{w32}
 use mir.ValLaws.{toZ-ofZ}
-use Rattle.stage.specs.Region.{of-placed}
-use Rattle.vektrid.specs.Calls.{position-outcome}
+use Rattle.stage.specs.Region.{position-outcome, of-placed}
+use Rattle.vektrid.specs.Calls.{region-of}
 use Rattle.vektrid.proofs.Outcomes.{refused-answer, refused-leaves, accepted-answer, accepted-hands}
-use Rattle.vektrid.proofs.Signs.{region-read}
 use borrow.Author.Needs.{needs}
 use Rattle.vektrid.proofs.positions.vektrid_position.Statement.{statement}
 use Rattle.vektrid.proofs.positions.vektrid_position.Tie as tie
 
 -- the outcome, by what the region's method gave
 placed : (c : tie.After-position) → let a = c .before .args in
-    position-outcome (a .left) (a .top) (a .width) (a .height) (a .x) (a .y) ≡ of-placed (c .position .result)
+    position-outcome (region-of (a .left) (a .top) (a .width) (a .height)) (a .x) (a .y) ≡ of-placed (c .position .result)
 placed c =
     let a = c .before .args in
     let f = c .before .fits in
-    sym (c .position .ensures ∙ region-read (a .left) (a .top) (a .width) (a .height) (a .x) (a .y) (f .left) (f .top))
+    sym (c .position .ensures
+    ∙ ap₂ (λ (l t : ℤ). position-outcome (region-of l t (a .width) (a .height)) (a .x) (a .y)) (toZ-ofZ w32 (a .left) (f .left))
+    (toZ-ofZ w32 (a .top) (f .top)))
 
 position-requires : tie.Need-position-requires
 position-requires c κs = search needs

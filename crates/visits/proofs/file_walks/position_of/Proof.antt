@@ -2,7 +2,7 @@
 -- Assumes nothing.
 use mathlib.Core.Path.{ap, _∙_}
 use Prim.Native.Nat.{ℕ}
-use Rattle.stage.specs.Region.{place-outcome}
+use Rattle.stage.specs.Region.{position-outcome}
 use Rattle.visits.specs.Visits.{position-of}
 use borrow.Author.Needs.{needs}
 use Rattle.visits.proofs.file_walks.position_of.Statement.{statement}
@@ -18,7 +18,7 @@ returns : tie.Need-returns
 unfolding position-of
 returns c =
     let r = c .before .before .before .args .planned in
-    c .position .ensures ∙ ap (λ (p : ℕ × ℕ). place-outcome (r .region) (p .0) (p .1)) (c .before .standard-point .ensures)
+    c .position .ensures ∙ ap (λ (p : ℕ × ℕ). position-outcome (r .region) (p .0) (p .1)) (c .before .standard-point .ensures)
 
 pub position-of-spec : {M : Type 1} → statement M
 position-of-spec = tie.close (tie.spec standard-point-requires position-requires returns)

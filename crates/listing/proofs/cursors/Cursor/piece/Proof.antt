@@ -8,16 +8,16 @@ use native.Mathlib.Omega.{arith}
 use denote.Ref.{now}
 use lib.ListN.{length, take, drop}
 use lib.Seq.{length-take-le, drop-drop}
-use Rattle.text.specs.Put.{Put}
 use Rattle.visits.specs.FileWalk.{to-come as visits-to-come}
 use Rattle.listing.specs.Listing.{lines}
 use Rattle.listing.specs.Cursor.{lead-text, to-come, ListingPiece}
 use Rattle.listing.proofs.Putting.{lead-longest, lines-none, joined, beyond}
+use Rattle.text.proofs.Puts.{Writes}
 use borrow.Author.Needs.{needs}
 use Rattle.listing.proofs.cursors.Cursor.piece.Statement.{statement}
 use Rattle.listing.proofs.cursors.Cursor.piece.Tie as tie
 
--- what is the same behind a walk is the same behind a later one
+-- buffers that agree from an offset on agree from a later one on
 behind : (n at : ℕ) (d e : List ℕ) → at ≤ n → drop at d ≡ drop at e → drop n d ≡ drop n e
 behind n at d e h q =
     let k : n ≡ at + (n - at) = omega arith in
@@ -64,7 +64,7 @@ returns-2 c =
     let L = l .ensures in
     let fits = L .fits in
     let t : length (take n e) ≡ n = length-take-le n e fits in
-    let p : Put d 0 s (u .result) d₁ = (u .ensures .0 ∙ sym (zero-add (length s)), u .ensures .1) in
+    let p : Writes d 0 s (u .result) d₁ = (u .ensures .0 ∙ sym (zero-add (length s)), u .ensures .1) in
     let goes-on : (take n e ++ lines (visits-to-come file (l .result .walk)) ≡ s ++ lines (visits-to-come file (a .self .walk))) =
     L .joins ∙ joined d d₁ 0 (u .result) s zero-le p (lines (visits-to-come file (a .self .walk))) in (
       (fits, sym t),

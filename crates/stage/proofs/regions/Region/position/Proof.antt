@@ -1,4 +1,4 @@
--- `Region::position` meets its contract.
+-- `Region::position`: a region that passes the test meets what `axis::position` requires on both axes.
 -- Assumes nothing.
 use mathlib.Core.Path.{sym, ap, ap₂, _∙_}
 use mathlib.Core.Bool.{not}

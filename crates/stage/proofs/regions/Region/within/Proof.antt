@@ -1,4 +1,4 @@
--- `Region::within` meets its contract.
+-- `Region::within`: its tests are the definition's, in the same order.
 -- Assumes nothing.
 use mathlib.Core.Path.{sym, _∙_}
 use mathlib.Core.Bool.{true, false}

@@ -1,17 +1,17 @@
--- `groups::four_word` meets its contract: each half of the word is a pair.
+-- `groups::four_digits_word`: each half of the word holds two digits (`four-digits-word-is`).
 -- Assumes nothing.
 use Prim.Native.Nat.{_/_, _%_, _<_}
 use native.Mathlib.Omega.{arith}
-use Rattle.text.proofs.Parts.{two-pairs}
+use Rattle.text.proofs.Parts.{four-digits-word-is}
 use borrow.Author.Needs.{needs}
-use Rattle.text.proofs.groups.four_word.Statement.{statement}
-use Rattle.text.proofs.groups.four_word.Tie as tie
+use Rattle.text.proofs.groups.four_digits_word.Statement.{statement}
+use Rattle.text.proofs.groups.four_digits_word.Tie as tie
 
-mul-pairs : tie.Need-mul-pairs
-mul-pairs c = search needs
+mul-halves : tie.Need-mul-halves
+mul-halves c = search needs
 
-add-pairs : tie.Need-add-pairs
-add-pairs c = search needs
+add-halves : tie.Need-add-halves
+add-halves c = search needs
 
 mul-parts : tie.Need-mul-parts
 mul-parts c = search needs
@@ -39,14 +39,14 @@ returns c =
     let n = c .args .n in
     let p : n / 100 < 100 = omega (arith, c .pre) in
     let q : n % 100 < 100 = omega arith in
-    two-pairs (n / 100) (n % 100) p q
+    four-digits-word-is (n / 100) (n % 100) p q
 
-pub four-word-spec : {M : Type 1} → statement M
-four-word-spec =
+pub four-digits-word-spec : {M : Type 1} → statement M
+four-digits-word-spec =
     tie.close
     (tie.spec
-    mul-pairs
-    add-pairs
+    mul-halves
+    add-halves
     mul-parts
     mul-tens
     add-tens
