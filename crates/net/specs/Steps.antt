@@ -1,10 +1,10 @@
 -- Statements on lists: the visits of a run and of a part of it, and the steps of a walk.
 use mathlib.Core.Path.{_≡_}
-use Prim.Native.Nat.{ℕ, suc, _+_, _-_, _*_, _^_, _<_, min}
+use Prim.Native.Nat.{ℕ, _+_, _-_, _*_, _^_, _<_, min}
 use lib.ListN.{take, drop}
 use Rattle.net.specs.Sequence.{Sequence, Finds}
 use Rattle.net.specs.Run.{visit, visits, run, hits}
-use Rattle.ranges.specs.Walk.{Walk, answers, after, given, visits-given}
+use Rattle.ranges.specs.Walk.{answers, visits-given}
 
 -- Where a block visits each interval once, its run has one visit in each. The n visits from index p of a block on, as far as they go
 -- into the block, are the run from there.

@@ -1,7 +1,7 @@
--- `stratify::cells::query` meets its contract: its tests are those of the definition, in its order. Assumes nothing.
+-- `query`: its tests are those of the definition, in its order.
 use mathlib.Core.Path.{_≡_, sym, _∙_}
 use mathlib.Core.List.{List, []}
-use Prim.Native.Nat.{ℕ, _-_, _≤_}
+use Prim.Native.Nat.{ℕ, _≤_}
 use native.Mathlib.Omega.{arith}
 use borrow.Author.Tests.{lt-ltb, le-ltb, le-leb, lt-leb}
 use borrow.Author.Needs.{needs}
@@ -126,12 +126,15 @@ find-requires c κs =
       },
     )
 
+-- past all tests
+all-passed : (c : tie.Else6) → let s = c .before .before .before .before .before .before .before in
+    let a = s .args in query-outcome (a .plan) (a .shift) (a .level) (a .m) (a .a) (a .block) (a .column) (a .row) ≡ located s
+all-passed c =
+    let s = c .before .before .before .before .before .before .before in
+    cell-passed (c .before) ∙ first-passes (located s) 7 [] (lt-leb _ _ (lt-of-div one-lt-two _ _ (c .if6 .left))) ∙ first-none (located s)
+
 returns-7 : tie.Need-returns-7
-returns-7 c =
-    let d = c .before in
-    let s = d .before .before .before .before .before .before .before in
-    c .find .ensures
-    ∙ sym (cell-passed (d .before) ∙ first-passes (located s) 7 [] (lt-leb _ _ (lt-of-div one-lt-two _ _ (d .if6 .left))) ∙ first-none (located s))
+returns-7 c = c .find .ensures ∙ sym (all-passed (c .before))
 
 pub query-spec : {M : Type 1} → statement M
 query-spec =
