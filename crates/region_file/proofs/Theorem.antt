@@ -1,8 +1,9 @@
 -- What users rely on.
 -- Assumes nothing.
 use Rattle.region_file.specs.Theorem.{Theorems}
+use Rattle.region_file.proofs.Numbers.{whole-chain}
 use Rattle.region_file.proofs.Ends.{chains-end}
 use Rattle.region_file.proofs.OnChain.{only-the-chain}
 
 pub theorems : Theorems
-theorems = record { chains-end = chains-end; only-the-chain = only-the-chain }
+theorems = record { chains-end = chains-end; whole-chain = whole-chain; only-the-chain = only-the-chain }

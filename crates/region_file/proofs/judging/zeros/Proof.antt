@@ -12,10 +12,10 @@ use Rattle.region_file.proofs.judging.zeros.Statement.{statement}
 use Rattle.region_file.proofs.judging.zeros.Tie as tie
 
 abbrev Inv-loop : tie.InvT-loop
-Inv-loop file from count at₀ left₀ at left = (at + left ≤ length file) × (zeros file at left ≡ zeros file from count)
+Inv-loop file start count at₀ left₀ at left = (at + left ≤ length file) × (zeros file at left ≡ zeros file start count)
 
 abbrev μ-loop : tie.MeasureT-loop
-μ-loop file from count at₀ left₀ at left = left
+μ-loop file start count at₀ left₀ at left = left
 
 loop-holds : tie.Need-loop-holds Inv-loop μ-loop
 loop-holds c = search needs

@@ -1,4 +1,4 @@
--- `judging::judge_to` meets its contract: the tests in order, each with its own return.
+-- `judging::judge` meets its contract: the tests in order, each with its own return.
 -- Assumes nothing.
 use mathlib.Core.Path.{_≡_, sym, ap, _∙_}
 use mathlib.Core.Bool.{true, false, not}
@@ -9,13 +9,13 @@ use lib.ListN.{length}
 use borrow.Author.Tests.{not-false}
 use Rattle.refusal.proofs.First.{first-none, first-refuses, first-passes}
 use Rattle.plan.specs.Pair.{unknown-level}
-use Rattle.region_file.specs.Fields.{level}
+use Rattle.region_file.specs.Fields.{file-level}
 use Rattle.region_file.specs.Judge.{judge-outcome}
 use Rattle.region_file.specs.Judge.{whole as is-whole}
 use Rattle.region_file.proofs.Chain.{Whole, whole-has, whole-few}
 use borrow.Author.Needs.{needs}
-use Rattle.region_file.proofs.judging.judge_to.Statement.{statement}
-use Rattle.region_file.proofs.judging.judge_to.Tie as tie
+use Rattle.region_file.proofs.judging.judge.Statement.{statement}
+use Rattle.region_file.proofs.judging.judge.Tie as tie
 
 is-whole-requires : tie.Need-is-whole-requires
 is-whole-requires c κs = search needs
@@ -39,7 +39,7 @@ whole c = whole-has _ (told c)
 size : (c : tie.Else1) → not (is-whole (length (now (c .before .before .before .args .file)))) ≡ false
 size c = ap not (told c)
 
-level-told : (c : tie.After-unknown-level) → unknown-level (level (now (c .before .before .before .before .before .args .file)))
+level-told : (c : tie.After-unknown-level) → unknown-level (file-level (now (c .before .before .before .before .before .args .file)))
     .holds ≡ c .unknown-level .result
 level-told c = sym (c .unknown-level .ensures ∙ ap (λ (k : ℕ). unknown-level k .holds) (c .before .field .ensures))
 
@@ -67,8 +67,8 @@ returns-4 c =
     (level-told (c .before .before .before .before) ∙ c .before .before .before .if2 .left) ∙ first-passes _ 12 _
     (sym (ap not (c .before .before .zeros .ensures)) ∙ c .before .if3 .left) ∙ first-none _)
 
-pub judge-to-spec : {M : Type 1} → statement M
-judge-to-spec =
+pub judge-spec : {M : Type 1} → statement M
+judge-spec =
     tie.close
     (tie.spec
     is-whole-requires
