@@ -17,13 +17,17 @@ use Rattle.region_file.specs.declared.fields.Record.{Record}
 use Rattle.region_file.specs.Fields.{record-bytes, most-bytes, record-at, first-record, records, most-records}
 use Rattle.region_file.specs.Judge.{whole, head-tests, most-visits, link-tests, link-outcome, nowhere, also, chain, judge-outcome}
 
--- a record that passes the tests of a link
+-- what a record has that passes its own tests
+pub record Sound (further : Record → List Test) (r : Record) : Type 0 where
+  pub inside : within (r .region) ≡ true
+  pub few : r .count ≤ most-visits
+  pub others : AllPass (further r)
+
+-- what a link has that passes its tests
 pub record Passed (further : Record → List Test) (file : List ℕ) (seen : Bool) (n : ℕ) : Type 0 where
   pub here : n < records file
   pub fresh : seen ≡ false
-  pub inside : within (record-at file n .region) ≡ true
-  pub few : record-at file n .count ≤ most-visits
-  pub others : AllPass (further (record-at file n))
+  pub sound : Sound further (record-at file n)
 
 module _ {A : Type 0} {after : Outcome A} {b : A} (further : Record → List Test) (file : List ℕ) (seen : Bool) (n : ℕ) where
   pub passed : first (link-tests further file seen n) after ≡ accepted b → Passed further file seen n × (after ≡ accepted b)
@@ -32,16 +36,9 @@ module _ {A : Type 0} {after : Outcome A} {b : A} (further : Record → List Tes
       let p = all-pass after (link-tests further file seen n) e in
       let here : leb (records file) n ≡ false = search p in
       let inside : not (within (r .region)) ≡ false = search p in
-      let few : ltb most-visits (r .count) ≡ false = search p in (
-        record {
-          here = leb-false (records file) n here;
-          fresh = search p;
-          inside = not-false _ inside;
-          few = ltb-false most-visits (r .count) few;
-          others = search p;
-        },
-        p .1,
-      )
+      let few : ltb most-visits (r .count) ≡ false = search p in
+      let sound : Sound further r = record { inside = not-false _ inside; few = ltb-false most-visits (r .count) few; others = search p } in
+      (record { here = leb-false (records file) n here; fresh = search p; sound = sound }, p .1)
 
 module _ (further : Record → List Test) (file : List ℕ) where
   pub chain-end : (links : ℕ) → 0 < links → (v : ℕ → Bool) (n : ℕ) → n ≡ 0 → chain further file links v n ≡ accepted tt

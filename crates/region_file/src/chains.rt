@@ -62,7 +62,7 @@ pub(crate) fn judge_chain(file: &[u8]) -> Judgement
     requires { ⌜ records (now file) ≤ most-records ⌝ }
     ensures { λ r. ⌜ of-judgement r ≡ chain no-further-tests (now (file .entry)) most-records nowhere (first-record (now (file .entry))) ⌝ }
 {
-    let mut marks = [0u8; MOST_RECORDS];
+    let mut marks = [0u8; MOST_RECORDS as usize];
     let mut n = first_record(file);
     while n != 0 {
         let at = n as usize;

@@ -14,7 +14,7 @@ pub(crate) const RECORD_BYTES: usize = 32;
 const FIELD_BYTES: usize = 4;
 
 // The records of the longest file, record 0 included.
-pub const MOST_RECORDS: usize = 2048;
+pub const MOST_RECORDS: u32 = 2048;
 
 // A record of the chain: the number of the next record, the region, the digital shift (01: scramble), and the count of visits.
 pub struct Record {

@@ -5,8 +5,8 @@ use Prim.Native.Nat.{ℕ}
 use Rattle.stage.specs.Region.{place-outcome}
 use Rattle.visits.specs.Visits.{position-of}
 use borrow.Author.Needs.{needs}
-use Rattle.visits.proofs.file_walks.position_of.Statement.{statement}
-use Rattle.visits.proofs.file_walks.position_of.Tie as tie
+use Rattle.visits.proofs.positions.position_of.Statement.{statement}
+use Rattle.visits.proofs.positions.position_of.Tie as tie
 
 standard-point-requires : tie.Need-standard-point-requires
 standard-point-requires c κs = search needs
