@@ -10,7 +10,7 @@ use visits::Step;
 ghost use mathlib.Core.Path.{_≡_};
 ghost use mir.Syntax.{w32};
 ghost use mir.Val.{toZ};
-ghost use Rattle.region_file.specs.Judge.{judge-outcome, most-visits};
+ghost use Rattle.region_file.specs.Judge.{judge-outcome, no-further-tests};
 ghost use Rattle.visits.specs.Visits.{visits-outcome};
 ghost use Rattle.vektrid.specs.Answers.{answer};
 ghost use Rattle.vektrid.specs.Words.{walk-of, coming, Opens, others, visit-words, shown};
@@ -78,7 +78,7 @@ pub(crate) fn words_of(walk: FileWalk) -> FileWalkWords
 // Whether the listing accepts a file.
 #[no_mangle]
 pub extern "C" fn vektrid_judge(file: &[u8]) -> u32
-    ensures { λ r. ⌜ r ≡ answer (judge-outcome most-visits (now (file .entry))) ⌝ }
+    ensures { λ r. ⌜ r ≡ answer (judge-outcome no-further-tests (now (file .entry))) ⌝ }
 {
     number_of(region_file::judge(file))
 }

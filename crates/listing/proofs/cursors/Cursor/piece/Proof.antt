@@ -9,7 +9,7 @@ use denote.Ref.{now}
 use lib.ListN.{length, take, drop}
 use lib.Seq.{length-take-le, drop-drop}
 use Rattle.text.specs.Put.{Put}
-use Rattle.visits.specs.FileWalk.{to-come as visits-to-come}
+use Rattle.visits.specs.FileWalk.{visits-to-come}
 use Rattle.listing.specs.Listing.{lines}
 use Rattle.listing.specs.Cursor.{lead-text, to-come, ListingPiece}
 use Rattle.listing.proofs.Putting.{lead-longest, lines-none, joined, beyond}
