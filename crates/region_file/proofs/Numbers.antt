@@ -7,8 +7,8 @@ use mathlib.Core.Logic.{_⊎_, inl, inr, _≢_}
 use Prim.Native.Nat.{ℕ, zero, suc, _+_, _-_, _≤_, _<_}
 use native.Mathlib.Nat.{lt-irrefl}
 use native.Mathlib.Omega.{arith}
-use lib.Dec.{eqb}
 use borrow.Author.Tests.{eq-eqb, ne-eqb}
+use lib.Dec.{eqb}
 use Rattle.ranges.proofs.Order.{eq-or-ne}
 use Rattle.refusal.specs.Outcome.{accepted, Test}
 use Rattle.region_file.specs.declared.fields.Record.{Record}

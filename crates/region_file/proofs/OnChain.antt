@@ -4,8 +4,8 @@ use mathlib.Core.Path.{_≡_, refl, ap, _∙_}
 use mathlib.Core.Bool.{Bool, true, false, cond}
 use mathlib.Core.List.{List}
 use Prim.Native.Nat.{ℕ, zero, suc, _/_}
-use lib.Dec.{eqb}
 use borrow.Author.Tests.{eqb-false}
+use lib.Dec.{eqb}
 use Rattle.refusal.specs.Outcome.{accepted, Test, first}
 use Rattle.region_file.specs.declared.fields.Record.{Record}
 use Rattle.region_file.specs.Fields.{record-bytes, record-at, first-record, records, most-records}

@@ -7,8 +7,8 @@ use mathlib.Core.Logic.{_⊎_, inl, inr}
 use Prim.Native.Nat.{ℕ, zero, suc, _+_, _-_, _≤_, _<_}
 use native.Mathlib.Nat.{lt-irrefl, le-refl}
 use native.Mathlib.Omega.{arith}
-use lib.Dec.{eqb, leb}
 use borrow.Author.Tests.{eq-eqb, ne-eqb, le-leb, lt-leb, not-false}
+use lib.Dec.{eqb, leb}
 use Rattle.ranges.specs.Range.{range}
 use Rattle.refusal.specs.Outcome.{accepted, refused, Test}
 use Rattle.refusal.proofs.First.{first-none, first-passes, first-accepted, accepted-refused, accepted-same}

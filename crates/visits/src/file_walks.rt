@@ -92,10 +92,10 @@ impl FileWalk {
         let judged = region_file::judge(file);
         match judged {
             Judgement::Refused(why) => Opened::Refused(why),
-            Judgement::Accepted => Opened::Open(before_record(
-                region_file::first_record(file),
-                MOST_RECORDS,
-            )),
+            Judgement::Accepted => {
+                let first = region_file::first_record(file);
+                Opened::Open(before_record(first, MOST_RECORDS))
+            }
         }
     }
 

@@ -3,10 +3,10 @@
 use mathlib.Core.Path.{_≡_, sym, ap, _∙_, subst}
 use mathlib.Core.Bool.{false}
 use Prim.Native.Nat.{ℕ, _≤_, _<_}
-use denote.Ref.{now}
-use lib.Dec.{leb}
 use borrow.Author.Needs.{needs}
 use borrow.Author.Tests.{le-leb, lt-leb}
+use denote.Ref.{now}
+use lib.Dec.{leb}
 use Rattle.refusal.proofs.First.{first-refuses, first-passes}
 use Rattle.region_file.specs.Fields.{records}
 use Rattle.region_file.specs.Judge.{no-further-tests, record-outcome}

@@ -1,7 +1,7 @@
 -- `fields::field` meets its contract.
 -- Assumes nothing.
-use Rattle.region_file.specs.Fields.{word-at}
 use borrow.Author.Needs.{needs}
+use Rattle.region_file.specs.Fields.{word-at}
 use Rattle.region_file.proofs.fields.field.Statement.{statement}
 use Rattle.region_file.proofs.fields.field.Tie as tie
 

@@ -2,13 +2,13 @@
 -- Assumes nothing.
 use mathlib.Core.Path.{_≡_, ap, ap₂, _∙_}
 use Prim.Native.Nat.{ℕ}
+use borrow.Author.Needs.{needs}
 use lib.IntN.{ℤ}
 use mir.Syntax.{w32}
 use mir.Val.{toZ}
 use mir.ValLaws.{toZ-ofZ}
 use Rattle.stage.specs.declared.regions.Region.{Region}
 use Rattle.region_file.specs.Fields.{record-at}
-use borrow.Author.Needs.{needs}
 use Rattle.region_file.proofs.fields.region_at.Statement.{statement}
 use Rattle.region_file.proofs.fields.region_at.Tie as tie
 

@@ -4,16 +4,16 @@ use mathlib.Core.Path.{_≡_, sym, ap, _∙_}
 use mathlib.Core.Bool.{true, false, not}
 use Prim.Native.Nat.{ℕ}
 use native.Mathlib.Omega.{arith}
+use borrow.Author.Tests.{not-false}
+use borrow.Author.Needs.{needs}
 use denote.Ref.{now}
 use lib.ListN.{length}
-use borrow.Author.Tests.{not-false}
 use Rattle.refusal.proofs.First.{first-none, first-refuses, first-passes}
 use Rattle.plan.specs.Pair.{unknown-level}
 use Rattle.region_file.specs.Fields.{file-level}
 use Rattle.region_file.specs.Judge.{judge-outcome}
 use Rattle.region_file.specs.Judge.{whole as is-whole}
 use Rattle.region_file.proofs.Chain.{Whole, whole-has, whole-few}
-use borrow.Author.Needs.{needs}
 use Rattle.region_file.proofs.judging.judge.Statement.{statement}
 use Rattle.region_file.proofs.judging.judge.Tie as tie
 

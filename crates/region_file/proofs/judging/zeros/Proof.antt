@@ -1,10 +1,10 @@
 -- `judging::zeros` meets its contract: what is left to look at is zero exactly when all is.
 -- Assumes nothing.
-use denote.Ref.{now}
 use mathlib.Core.Path.{_≡_, sym, _∙_}
 use Prim.Native.Nat.{_+_, _≤_}
 use native.Mathlib.Omega.{arith}
 use borrow.Author.Needs.{needs}
+use denote.Ref.{now}
 use lib.ListN.{length}
 use Rattle.region_file.specs.Fields.{zeros}
 use Rattle.region_file.proofs.Zeros.{zeros-none, zeros-more, zeros-not}

@@ -1,17 +1,17 @@
 -- `file_walks::here` meets its contract.
 -- Assumes nothing.
 use mathlib.Core.Path.{sym, ap, ap₂, _∙_}
+use borrow.Author.Tests.{le-leb, lt-leb}
+use borrow.Author.Needs.{needs}
 use lib.IntN.{ℤ}
 use mir.Syntax.{w32}
 use mir.Val.{SFits}
 use mir.ValLaws.{toZ-ofZ}
-use borrow.Author.Tests.{le-leb, lt-leb}
 use Rattle.stage.specs.declared.regions.Position.{Position}
 use Rattle.stage.specs.Region.{of-placed}
 use Rattle.visits.specs.Stepping.{step-in-record}
 use Rattle.visits.proofs.Coming.{refused-outside, accepted-inside}
 use Rattle.visits.proofs.Steps.{stepped, step-in-record-visit}
-use borrow.Author.Needs.{needs}
 use Rattle.visits.proofs.file_walks.step_in_record.Statement.{statement}
 use Rattle.visits.proofs.file_walks.step_in_record.Tie as tie
 

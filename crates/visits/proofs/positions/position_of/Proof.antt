@@ -2,9 +2,9 @@
 -- Assumes nothing.
 use mathlib.Core.Path.{ap, _∙_}
 use Prim.Native.Nat.{ℕ}
+use borrow.Author.Needs.{needs}
 use Rattle.stage.specs.Region.{place-outcome}
 use Rattle.visits.specs.Visits.{position-of}
-use borrow.Author.Needs.{needs}
 use Rattle.visits.proofs.positions.position_of.Statement.{statement}
 use Rattle.visits.proofs.positions.position_of.Tie as tie
 

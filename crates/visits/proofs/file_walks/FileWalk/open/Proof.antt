@@ -1,6 +1,7 @@
 -- `FileWalk::open` meets its contract.
 -- Assumes nothing.
 use mathlib.Core.Path.{sym, ap, _∙_}
+use borrow.Author.Needs.{needs}
 use denote.Ref.{now}
 use Rattle.refusal.specs.Outcome.{accepted}
 use Rattle.refusal.specs.Refusal.{of-judgement}
@@ -11,7 +12,6 @@ use Rattle.region_file.proofs.Chain.{judged-chain}
 use Rattle.visits.specs.Visits.{file-visits}
 use Rattle.visits.specs.FileWalk.{visits-from, visits-to-come}
 use Rattle.visits.proofs.Coming.{before-comes, visits-from-accepted}
-use borrow.Author.Needs.{needs}
 use Rattle.visits.proofs.file_walks.FileWalk.open.Statement.{statement}
 use Rattle.visits.proofs.file_walks.FileWalk.open.Tie as tie
 

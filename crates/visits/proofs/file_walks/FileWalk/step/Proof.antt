@@ -2,14 +2,14 @@
 -- Assumes nothing.
 use mathlib.Core.Path.{sym, _∙_, subst}
 use mathlib.Core.Logic.{inl}
-use denote.Ref.{now}
 use borrow.Author.Tests.{not-true, not-false}
+use borrow.Author.Needs.{needs}
+use denote.Ref.{now}
 use Rattle.visits.specs.declared.file_walks.Stepped.{Stepped}
 use Rattle.visits.specs.FileWalk.{Gives}
 use Rattle.visits.specs.Stepping.{step-in-record}
 use Rattle.visits.proofs.Coming.{to-come-outside, to-come-next}
 use Rattle.visits.proofs.Steps.{gives-in-record, gives-same}
-use borrow.Author.Needs.{needs}
 use Rattle.visits.proofs.file_walks.FileWalk.step.Statement.{statement}
 use Rattle.visits.proofs.file_walks.FileWalk.step.Tie as tie
 
