@@ -1,4 +1,5 @@
--- One link of the chain, by the cases of the code, and what an accepted link and an accepted file have.
+-- The laws of `chain` and `whole`, one for each case of the code, and what an accepted link, chain or file has. They hold for every list of
+-- further tests.
 -- Assumes nothing.
 use mathlib.Core.Path.{_≡_, refl, sym}
 use mathlib.Core.Bool.{Bool, true, false, cond, not}
@@ -76,7 +77,8 @@ module _ (further : Record → List Test) (file : List ℕ) where
   linked links v n h = go (eqb n 0) refl h
     where
       go : (z : Bool) → eqb n 0 ≡ z
-          → cond z (accepted tt) (first (link-tests further file (v n) n) (chain further file links (also n v) (record-at file n .next))) ≡ accepted tt
+          → cond z (accepted tt) (first (link-tests further file (v n) n) (chain further file links (also n v) (record-at file n .next)))
+          ≡ accepted tt
           → (n ≡ 0) ⊎ Linked links v n
       go true e h = inl (eqb-true n 0 e)
       go false e h = let p = passed further file (v n) n h in inr (record { some = eqb-false n 0 e; link = p .0; rest = p .1 })

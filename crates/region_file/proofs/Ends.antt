@@ -1,4 +1,4 @@
--- Every chain ends within as many links as a file can have records: each link takes a record that was free.
+-- Every chain ends within as many links as a file can have records: each link that passes takes a record that was free.
 -- Assumes nothing.
 use mathlib.Core.Path.{_≡_, refl, sym, ap, _∙_}
 use mathlib.Core.Bool.{Bool, true, false, cond}

@@ -1,4 +1,4 @@
--- A mark for each record: 0 where no link has named it.
+-- A mark for each record, 0 where no link has named it: the marked records as a function, and the number of those that are free.
 -- Assumes nothing.
 use mathlib.Core.Path.{_≡_, refl, ap, _∙_}
 use mathlib.Core.Bool.{Bool, true, false, not, _||_}

@@ -1,8 +1,9 @@
--- The numbers of a chain: which they are by the cases of the code, and that an accepted chain has no more than its links.
+-- The laws of the chain's numbers: `member`, one law for each case of the code; and of an accepted chain, that it names no record twice,
+-- that its records pass their tests, and that it has no more numbers than links were followed.
 -- Assumes nothing.
 use mathlib.Core.Path.{_≡_, refl, sym, ap, _∙_, subst}
 use mathlib.Core.Bool.{Bool, true, false, _||_, true≢false}
-use mathlib.Core.List.{List, [], _∷_}
+use mathlib.Core.List.{List}
 use mathlib.Core.Logic.{_⊎_, inl, inr, _≢_}
 use Prim.Native.Nat.{ℕ, zero, suc, _+_, _-_, _≤_, _<_}
 use native.Mathlib.Nat.{lt-irrefl}
@@ -37,7 +38,8 @@ module _ (file : List ℕ) (k : ℕ) where
   unfolding numbers member
   member-first links n ne e = simp (ne-eqb n 0 ne, eq-eqb n k e)
 
-  member-rest : (links n : ℕ) → (n ≡ 0 → ⊥) → (n ≡ k → ⊥) → member k (numbers file (suc links) n) ≡ member k (numbers file links (record-at file n .next))
+  member-rest : (links n : ℕ) → (n ≡ 0 → ⊥) → (n ≡ k → ⊥)
+      → member k (numbers file (suc links) n) ≡ member k (numbers file links (record-at file n .next))
   unfolding numbers member
   member-rest links n ne e = simp (ne-eqb n 0 ne, ne-eqb n k e)
 

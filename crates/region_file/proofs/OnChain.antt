@@ -1,4 +1,4 @@
--- Records off the chain are not looked at.
+-- Records off the chain are not looked at: the judgements of two files that agree on the chain stay the same link by link.
 -- Assumes nothing.
 use mathlib.Core.Path.{_≡_, refl, ap, _∙_}
 use mathlib.Core.Bool.{Bool, true, false, cond}

@@ -1,4 +1,4 @@
--- What users rely on.
+-- What users rely on: one term of `Theorems`.
 -- Assumes nothing.
 use Rattle.region_file.specs.Theorem.{Theorems}
 use Rattle.region_file.proofs.Numbers.{whole-chain}

@@ -1,4 +1,4 @@
--- Zero bytes, as the code looks at them.
+-- The laws of `zeros`, one for each case of the code's loop.
 -- Assumes nothing.
 use mathlib.Core.Path.{_≡_, refl, sym, ap, _∙_}
 use mathlib.Core.Bool.{true, false}

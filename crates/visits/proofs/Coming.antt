@@ -1,4 +1,5 @@
--- What is to come from a walk, by the cases of the code, and of an accepted file.
+-- The laws of the visits to come from a walk, one for each case of the code; and that from a file's first record the visits to come are the
+-- file's, if it is accepted.
 -- Assumes nothing.
 use mathlib.Core.Path.{_≡_, refl, sym, ap, _∙_}
 use mathlib.Core.Bool.{Bool, true, false, not, _&&_, true≢false}
@@ -25,7 +26,7 @@ use Rattle.visits.specs.Visits.{planned, position-of, visit-position-out
 use Rattle.visits.specs.FileWalk.{listable, visits-from, visits-to-come, before-record, ended-walk}
 use Rattle.visits.specs.Stepping.{after-visit}
 
--- a stretch of some visits, and of none
+-- the visits of a record, where there are some and where there are none
 record-visits-more : (n : ℕ) (r : Record) (i k : ℕ) → 0 < k → record-visits n r i k ≡ file-visit n r i ∷ record-visits n r (i + 1) (k - 1)
 unfolding range
 record-visits-more n r i zero h = absurd (lt-irrefl 0 h)
@@ -39,7 +40,7 @@ unfolding range
 record-visits-none n r i zero h = refl
 record-visits-none n r i (suc k) h = absurd (omega arith)
 
--- ---- records that can be listed
+-- ---- records that are listable
 
 pub listable-zero : (file : List ℕ) (n : ℕ) → n ≡ 0 → listable file n ≡ false
 unfolding listable
@@ -71,12 +72,13 @@ refused-outside r i e = go (within (r .region)) refl
     go false h = h
     go true h = absurd (accepted-refused (sym (first-passes (accepted (position-of r i)) 10 [] (ap not h) ∙ first-none _) ∙ e))
 
-pub accepted-inside : (r : Record) (i : ℕ) {p : Position} → visit-position-outcome r i ≡ accepted p → (within (r .region) ≡ true) × (position-of r i ≡ p)
+pub accepted-inside : (r : Record) (i : ℕ) {p : Position} → visit-position-outcome r i ≡ accepted p
+    → (within (r .region) ≡ true) × (position-of r i ≡ p)
 accepted-inside r i e =
     let h = first-accepted (accepted (position-of r i)) 10 [] (not (within (r .region))) e in
     (not-false _ (h .0), accepted-same (sym (first-none _) ∙ h .1))
 
--- ---- the chain from a number on
+-- ---- the visits of the chain from a record on
 
 pub visits-from-none : (file : List ℕ) (links n : ℕ) → links ≤ 0 → visits-from file links n ≡ []
 unfolding visits-from
@@ -96,18 +98,19 @@ visits-from-more file (suc links) n p h =
     let q : links ≡ suc links - 1 = omega arith in
     simp h (ap (λ (k : ℕ). record-visits n (planned file n) 0 (planned file n .count) ++ visits-from file k (planned file n .next)) q)
 
--- a record without visits
+-- a record without visits is passed over
 pub visits-from-empty : (file : List ℕ) (links n : ℕ) → 0 < links → listable file n ≡ true → planned file n .count ≤ 0
     → visits-from file links n ≡ visits-from file (links - 1) (planned file n .next)
 visits-from-empty file links n p h e =
     visits-from-more file links n p h ∙ ap (λ (l : List FileVisit). l ++ visits-from file (links - 1) (planned file n .next))
     (record-visits-none n (planned file n) 0 (planned file n .count) e)
 
--- ---- a walk
+-- ---- the visits to come from a walk
 
 module _ (file : List ℕ) (p : FileWalk) where
   to-come-within : within (p .planned .region) ≡ true
-      → visits-to-come file p ≡ record-visits (p .number) (p .planned) (p .index) (p .planned .count - p .index) ++ visits-from file (p .links) (p .planned .next)
+      → visits-to-come file p
+      ≡ record-visits (p .number) (p .planned) (p .index) (p .planned .count - p .index) ++ visits-from file (p .links) (p .planned .next)
   unfolding visits-to-come
   to-come-within e = simp e
 
@@ -115,14 +118,15 @@ module _ (file : List ℕ) (p : FileWalk) where
   unfolding visits-to-come
   to-come-outside e = simp e
 
-  -- its own record is done with
-  pub to-come-next : within (p .planned .region) ≡ true → p .planned .count ≤ p .index → visits-to-come file p ≡ visits-from file (p .links) (p .planned .next)
+  -- where its record has no visit left, those of the chain from the next record on
+  pub to-come-next : within (p .planned .region) ≡ true → p .planned .count ≤ p .index
+      → visits-to-come file p ≡ visits-from file (p .links) (p .planned .next)
   to-come-next e h =
       let none : p .planned .count - p .index ≤ 0 = omega arith in
       to-come-within e ∙ ap (λ (l : List FileVisit). l ++ visits-from file (p .links) (p .planned .next))
       (record-visits-none (p .number) (p .planned) (p .index) (p .planned .count - p .index) none)
 
--- its first visit, and the walk past it
+-- where its record has one left, that visit and those to come from the walk after it
 pub to-come-first : (file : List ℕ) (p : FileWalk) → within (p .planned .region) ≡ true → p .index < p .planned .count
     → visits-to-come file p ≡ file-visit (p .number) (p .planned) (p .index) ∷ visits-to-come file (after-visit p)
 to-come-first file p e h =
@@ -133,10 +137,11 @@ to-come-first file p e h =
     let some : 0 < r .count - i = omega arith in
     let one : r .count - i - 1 ≡ r .count - (i + 1) = omega arith in
     to-come-within file p e
-    ∙ ap (λ (l : List FileVisit). l ++ rest) (record-visits-more n r i (r .count - i) some ∙ ap (λ (k : ℕ). file-visit n r i ∷ record-visits n r (i + 1) k) one)
+    ∙ ap (λ (l : List FileVisit). l ++ rest)
+    (record-visits-more n r i (r .count - i) some ∙ ap (λ (k : ℕ). file-visit n r i ∷ record-visits n r (i + 1) k) one)
     ∙ ap (λ (l : List FileVisit). file-visit n r i ∷ l) (sym (to-come-within file (after-visit p) e))
 
--- the start of a record
+-- the walk at the start of record n
 abbrev pub start-of : ℕ → Record → ℕ → FileWalk
 start-of n r links = record { number = n; planned = r; index = 0; links = links }
 
@@ -149,7 +154,7 @@ start-comes file links n p h =
     ∙ ap (λ (k : ℕ). record-visits n r 0 k ++ visits-from file (links - 1) (r .next)) all
     ∙ sym (visits-from-more file links n p h)
 
--- behind a record without visits, the chain is to come
+-- from the walk before a record, those of the chain that begins with the record
 before-within : (next links : ℕ) → within (before-record next links .planned .region) ≡ true
 unfolding within
 before-within next links = refl
@@ -164,8 +169,8 @@ ended-comes file = before-comes file 0 0 ∙ visits-from-none file 0 0 (le-refl 
 
 -- ---- an accepted file
 
-pub visits-from-accepted : (further : Record → List Test) (file : List ℕ) (links : ℕ) (v : ℕ → Bool) (n : ℕ) → chain further file links v n ≡ accepted tt
-    → visits-from file links n ≡ visits-of file (numbers file links n)
+pub visits-from-accepted : (further : Record → List Test) (file : List ℕ) (links : ℕ) (v : ℕ → Bool) (n : ℕ)
+    → chain further file links v n ≡ accepted tt → visits-from file links n ≡ visits-of file (numbers file links n)
 unfolding visits-from numbers visits-of
 visits-from-accepted further file zero v n h = absurd (chain-some further file v n h)
 visits-from-accepted further file (suc links) v n h = go (linked further file links v n h) (λ v n h. visits-from-accepted further file links v n h)

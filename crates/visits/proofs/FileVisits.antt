@@ -20,7 +20,7 @@ use Rattle.region_file.specs.Judge.{nowhere, also, chain, judge-outcome}
 use Rattle.region_file.proofs.Chain.{Linked, linked, chain-some, judged-chain}
 use Rattle.region_file.proofs.Numbers.{member-visited, member-sound}
 use Rattle.visits.specs.declared.file_walks.FileVisit.{FileVisit}
-use Rattle.visits.specs.Visits.{planned, position-of, visit-position-outcome, file-visit, record-visits, visits-of, file-visits}
+use Rattle.visits.specs.Visits.{planned, position-of, file-visit, record-visits, visits-of, file-visits}
 use Rattle.visits.specs.Theorem.{Among, VisitOf, visits-at}
 use Rattle.visits.proofs.Coming.{accepted-inside}
 
@@ -94,8 +94,12 @@ module _ (further : Record → List Test) (file : List ℕ) (n i : ℕ) where
     where
       go : (b : Bool) → ltb i (planned file n .count) ≡ b
           → visits-at n i (record-visits n (planned file n) 0 (planned file n .count)) ≡ cond b (file-visit n (planned file n) i ∷ []) []
-      go true e = let h = ltb-true i (planned file n .count) e in visits-at-one n i (planned file n) 0 (planned file n .count) (omega arith) (omega (arith, h))
-      go false e = let h = ltb-false i (planned file n .count) e in visits-at-none n i (planned file n) 0 (planned file n .count) (inr (omega (arith, h)))
+      go true e =
+          let h = ltb-true i (planned file n .count) e in
+          visits-at-one n i (planned file n) 0 (planned file n .count) (omega arith) (omega (arith, h))
+      go false e =
+          let h = ltb-false i (planned file n .count) e in
+          visits-at-none n i (planned file n) 0 (planned file n .count) (inr (omega (arith, h)))
 
   none-once : visits-at n i (visits-of file []) ≡ wanted (member n [])
   unfolding visits-of visits-at member
@@ -151,8 +155,9 @@ both-true false e = absurd (true≢false (sym e))
 among-own : (v : FileVisit) (vs : List FileVisit) → Among v vs → Among v (visits-at (v .number) (v .index) vs)
 unfolding visits-at
 among-own v (w ∷ ws) (inl e) =
-    simp (eq-eqb (w .number) (v .number) (ap (λ (u : FileVisit). u .number) (sym e)), eq-eqb (w .index) (v .index) (ap (λ (u : FileVisit). u .index) (sym e)))
-    (first-of e)
+    let number : w .number ≡ v .number = ap (λ (u : FileVisit). u .number) (sym e) in
+    let index : w .index ≡ v .index = ap (λ (u : FileVisit). u .index) (sym e) in
+    simp (eq-eqb (w .number) (v .number) number, eq-eqb (w .index) (v .index) index) (first-of e)
   where
     first-of : v ≡ w → (v ≡ w) ⊎ Among v (visits-at (v .number) (v .index) ws)
     first-of e = inl e

@@ -1,14 +1,12 @@
--- What a step from a walk gives, by the cases of the code.
+-- What a step within a record gives: the first visit to come, or the end where none is to come.
 -- Assumes nothing.
-use mathlib.Core.Path.{_≡_, refl, sym, ap, _∙_}
+use mathlib.Core.Path.{_≡_, refl, sym, _∙_}
 use mathlib.Core.Bool.{Bool, true, false, true≢false}
-use mathlib.Core.List.{List, [], _∷_}
+use mathlib.Core.List.{List, []}
 use mathlib.Core.Logic.{_⊎_, inl, inr}
 use Prim.Native.Nat.{ℕ, _<_}
-use native.Mathlib.Omega.{arith}
 use borrow.Author.Tests.{lt-leb, leb-false}
 use lib.Dec.{leb}
-use lib.ListN.{length}
 use Rattle.stage.specs.Region.{within}
 use Rattle.visits.specs.declared.file_walks.FileVisit.{FileVisit}
 use Rattle.visits.specs.declared.file_walks.FileWalk.{FileWalk}
@@ -20,7 +18,7 @@ use Rattle.visits.specs.FileWalk.{visits-to-come, Gives}
 use Rattle.visits.specs.Stepping.{after-visit, step-in-record}
 use Rattle.visits.proofs.Coming.{to-come-outside, to-come-first}
 
--- a visit, told with the walk past it
+-- the step that gives v from the walk p
 abbrev pub stepped : FileWalk → FileVisit → Stepped
 stepped p v = record { step = step.Visited v; walk = after-visit p }
 
@@ -29,11 +27,9 @@ pub step-in-record-visit : (p : FileWalk) → p .index < p .planned .count → w
 unfolding step-in-record
 step-in-record-visit p h e = simp (lt-leb _ _ h, e)
 
-cons-none : {v : FileVisit} {vs : List FileVisit} → v ∷ vs ≡ [] → ⊥
-cons-none e = let z = ap length e in omega (arith, z)
-
--- from a walk that has a visit, or from which none is to come
-pub gives-in-record : (file : List ℕ) (p : FileWalk) → (p .index < p .planned .count) ⊎ (visits-to-come file p ≡ []) → Gives file p (step-in-record p .step) (step-in-record p .walk)
+-- the step from a walk that has a visit at its index, or from which none is to come
+pub gives-in-record : (file : List ℕ) (p : FileWalk) → (p .index < p .planned .count) ⊎ (visits-to-come file p ≡ [])
+    → Gives file p (step-in-record p .step) (step-in-record p .walk)
 unfolding step-in-record
 gives-in-record file p ready = go (leb (p .planned .count) (p .index)) refl (within (p .planned .region)) refl ready
   where
@@ -48,7 +44,7 @@ gives-in-record file p ready = go (leb (p .planned .count) (p .index)) refl (wit
     go true ea b eb (inl h) = absurd (true≢false (sym ea ∙ lt-leb _ _ h))
     go true ea b eb (inr e) = simp ea (ended e)
 
--- as much is to come from another walk
+-- a step from q is a step from p, where the same visits are to come from both
 pub gives-same : (file : List ℕ) (p q r : FileWalk) (s : Step) → visits-to-come file p ≡ visits-to-come file q → Gives file q s r → Gives file p s r
 gives-same file p q r (step.Visited v) e g = e ∙ g
 gives-same file p q r step.Ended e g = (e ∙ g .0, g .1)

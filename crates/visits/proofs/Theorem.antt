@@ -1,4 +1,4 @@
--- What users rely on.
+-- What users rely on: one term of `Theorems`. Each step takes the first of the visits to come, so n steps take the first n.
 -- Assumes nothing.
 use mathlib.Core.Path.{_≡_, refl, sym, ap, _∙_}
 use mathlib.Core.List.{List, _∷_}

@@ -1,4 +1,4 @@
--- `chains::is_marked` meets its contract.
+-- `chains::is_marked`: past the end of the marks an element reads as 0.
 -- Assumes nothing.
 use mathlib.Core.Path.{sym, ap}
 use mathlib.Core.Bool.{not}

@@ -1,4 +1,5 @@
--- `chains::judge_chain` meets its contract: the chain still to be judged, of as many links as records are free, decides.
+-- `chains::judge_chain`. The loop's invariant: the chain from n on, with as many links as records are free and the marked ones as visited,
+-- is judged as the whole chain. The measure is the number of free records.
 -- Assumes nothing.
 use mathlib.Core.Path.{_≡_, sym, ap, ap₂, _∙_}
 use mathlib.Core.Bool.{Bool}
@@ -49,7 +50,8 @@ loop-holds c =
       length-replicate {A = ℕ} most-records 0,
       fresh-at most-records 0,
       search needs,
-      ap₂ (λ (f : ℕ) (m : ℕ → Bool). chain no-further-tests (now (a .file)) f m (c .first-record .result)) (free-fresh most-records) (marked-fresh most-records)
+      ap₂ (λ (f : ℕ) (m : ℕ → Bool). chain no-further-tests (now (a .file)) f m (c .first-record .result))
+          (free-fresh most-records) (marked-fresh most-records)
           ∙ ap (chain no-further-tests (now (a .file)) most-records nowhere) (c .first-record .ensures),
     )
 
@@ -69,14 +71,14 @@ enum-known-judged : tie.Need-enum-known-judged Inv-loop μ-loop
 enum-known-judged c = search needs
 
 -- what the tests of the link come to, by the marks
-told : (c : tie.After-judge-link Inv-loop μ-loop)
+link-judged : (c : tie.After-judge-link Inv-loop μ-loop)
     → link-outcome no-further-tests
     (now (c .before .before .before .before .before .before .before .args .file))
     (marked (c .before .before .before .before .loop .marks) (c .before .before .before .before .loop .n))
     (c .before .before .before .before .loop .n)
     ≡ of-judgement (c .judge-link .result)
 unfolding marked
-told c =
+link-judged c =
     let a = c .before .before .before .before .before .before .before .args in
     sym (c .judge-link .ensures ∙ ap (λ (x : Bool). link-outcome no-further-tests (now (a .file)) x (c .before .before .before .before .loop .n))
     (c .before .is-marked .ensures))
@@ -85,9 +87,10 @@ returns : tie.Need-returns Inv-loop μ-loop
 returns c =
     let a = c .before .before .before .before .before .before .before .before .before .before .args in
     let i = c .before .before .before .before .before .before .before .loop in
-    sym (chain-refused no-further-tests (now (a .file)) (marked (i .marks)) (i .n) (c .before .before .before .before .before .before .loop-test .taken)
+    sym (chain-refused no-further-tests (now (a .file)) (marked (i .marks)) (i .n)
+    (c .before .before .before .before .before .before .loop-test .taken)
     (free (i .marks))
-    (free-some (i .marks) (i .inv .0) (i .inv .1)) (told (c .before .before .before) ∙ ap of-judgement (c .before .judged .given .1)))
+    (free-some (i .marks) (i .inv .0) (i .inv .1)) (link-judged (c .before .before .before) ∙ ap of-judgement (c .before .judged .given .1)))
     ∙ i .inv .3
 
 enum-told : tie.Need-enum-told Inv-loop μ-loop
@@ -99,7 +102,7 @@ took c =
     let a = c .before .before .before .before .before .before .before .before .before .args in
     let i = c .before .before .before .before .before .before .loop in
     taken (now (a .file)) (i .marks) (i .n) (c .before .before .before .before .before .before .before .before .before .pre) (i .inv .0)
-    (told (c .before .before) ∙ ap of-judgement (c .enum-told .given .1))
+    (link-judged (c .before .before) ∙ ap of-judgement (c .enum-told .given .1))
 
 array-write-marks : tie.Need-array-write-marks Inv-loop μ-loop
 array-write-marks c = let t = took c in omega (arith, t .here)

@@ -1,4 +1,4 @@
--- `chains::judge_link` meets its contract: 13 and 14, each with its own return, and then the tests of the record decide.
+-- `chains::judge_link`: 13 and 14 have their own returns; after them the tests of the record decide.
 -- Assumes nothing.
 use mathlib.Core.Path.{_≡_, sym, ap, _∙_, subst}
 use mathlib.Core.Bool.{false}

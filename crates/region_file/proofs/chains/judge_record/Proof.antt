@@ -1,4 +1,4 @@
--- `chains::judge_record` meets its contract: the tests in order, each with its own return.
+-- `chains::judge_record`: each test has its own return, in the order of the list.
 -- Assumes nothing.
 use mathlib.Core.Path.{_≡_, sym, ap, _∙_}
 use mathlib.Core.Bool.{false, not}

@@ -1,4 +1,4 @@
--- `chains::on_chain` meets its contract. The loop's invariant: n is one of the numbers still to be looked at exactly when it is on the chain.
+-- `chains::on_chain`. The loop's invariant: n is one of the numbers still to be followed exactly when it is on the chain.
 -- Assumes nothing.
 use mathlib.Core.Path.{_≡_, sym, ap, _∙_}
 use Prim.Native.Nat.{ℕ, _-_, _^_, _≤_, _<_}
@@ -55,7 +55,8 @@ loop-again c =
       search needs,
       search needs,
       ap (λ (r : Record). member (a .n) (numbers (now (a .file)) (i .links - 1) (r .next))) (c .record-at .ensures)
-          ∙ sym (member-next (now (a .file)) (a .n) (i .links) (i .number) (c .before .before .before .loop-test .taken) (c .before .before .if1 .left)
+          ∙ sym (member-next (now (a .file)) (a .n) (i .links) (i .number) (c .before .before .before .loop-test .taken)
+          (c .before .before .if1 .left)
           (c .before .if2 .left))
           ∙ i .inv .2,
     )

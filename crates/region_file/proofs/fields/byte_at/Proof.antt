@@ -1,4 +1,4 @@
--- `fields::byte_at` meets its contract.
+-- `fields::byte_at`: past the end of the file an element reads as 0.
 -- Assumes nothing.
 use mathlib.Core.Path.{sym}
 use borrow.Author.Needs.{needs}

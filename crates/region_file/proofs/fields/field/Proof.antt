@@ -1,4 +1,4 @@
--- `fields::field` meets its contract.
+-- `fields::field`: no sum wraps, since each byte is below 256.
 -- Assumes nothing.
 use borrow.Author.Needs.{needs}
 use Rattle.region_file.specs.Fields.{word-at}

@@ -1,4 +1,4 @@
--- `fields::record_at` meets its contract.
+-- `fields::record_at`: a record is the same where its fields are.
 -- Assumes nothing.
 use mathlib.Core.Path.{_≡_, ap, ap₂, _∙_}
 use Prim.Native.Nat.{ℕ}

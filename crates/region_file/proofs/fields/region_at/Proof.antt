@@ -1,4 +1,4 @@
--- `fields::region_at` meets its contract.
+-- `fields::region_at`: a region is the same where its four fields are; left and top go through two's complement and back.
 -- Assumes nothing.
 use mathlib.Core.Path.{_≡_, ap, ap₂, _∙_}
 use Prim.Native.Nat.{ℕ}

@@ -1,4 +1,4 @@
--- `judging::zeros` meets its contract: what is left to look at is zero exactly when all is.
+-- `judging::zeros`. The loop's invariant: the bytes still to be looked at are all zero exactly when all of them are.
 -- Assumes nothing.
 use mathlib.Core.Path.{_≡_, sym, _∙_}
 use Prim.Native.Nat.{_+_, _≤_}

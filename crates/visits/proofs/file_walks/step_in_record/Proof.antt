@@ -1,4 +1,4 @@
--- `file_walks::here` meets its contract.
+-- `file_walks::step_in_record`: a position is refused exactly where the region is outside its limits.
 -- Assumes nothing.
 use mathlib.Core.Path.{sym, ap, ap₂, _∙_}
 use borrow.Author.Tests.{le-leb, lt-leb}

@@ -1,4 +1,4 @@
--- `file_walks::position_of` meets its contract.
+-- `positions::position_of`: the point of the standard pair, placed in the record's region.
 -- Assumes nothing.
 use mathlib.Core.Path.{ap, _∙_}
 use Prim.Native.Nat.{ℕ}

@@ -1,4 +1,4 @@
--- `positions::visit_position` meets its contract: the position of the visit in the record as the planner reads it.
+-- `positions::visit_position`: the position of the visit in the record as the planner reads it.
 -- Assumes nothing.
 use mathlib.Core.Path.{ap, _∙_}
 use borrow.Author.Needs.{needs}

@@ -1,4 +1,4 @@
--- `chain::found` meets its contract: what is to come from the number at hand is what is to come from the start.
+-- `records::at_next_visit`. The loop's invariant: the visits from n on, over the links that are left, are those from the start on.
 -- Assumes nothing.
 use mathlib.Core.Path.{_≡_, sym, ap, _∙_, subst}
 use mathlib.Core.List.{List, []}

@@ -1,4 +1,4 @@
--- `chain::listable` meets its contract.
+-- `records::listable`: each return is a case of the definition `listable`.
 -- Assumes nothing.
 use mathlib.Core.Path.{sym, ap, _∙_, subst}
 use Prim.Native.Nat.{ℕ, _≤_, _<_}

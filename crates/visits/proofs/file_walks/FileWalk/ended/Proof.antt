@@ -1,4 +1,4 @@
--- `FileWalk::ended` meets its contract.
+-- `FileWalk::ended`: the walk before record 0, with no links.
 -- Assumes nothing.
 use borrow.Author.Needs.{needs}
 use Rattle.visits.proofs.file_walks.FileWalk.ended.Statement.{statement}

@@ -1,4 +1,4 @@
--- `FileWalk::open` meets its contract.
+-- `FileWalk::open`: from the walk before the first record of an accepted file the file's visits are to come (`visits-from-accepted`).
 -- Assumes nothing.
 use mathlib.Core.Path.{sym, ap, _∙_}
 use borrow.Author.Needs.{needs}

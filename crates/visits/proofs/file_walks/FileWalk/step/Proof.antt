@@ -1,4 +1,4 @@
--- `FileWalk::step` meets its contract.
+-- `FileWalk::step`: where the record has a visit left the step stays in it; else as much is to come from the walk at the next visit.
 -- Assumes nothing.
 use mathlib.Core.Path.{sym, _∙_, subst}
 use mathlib.Core.Logic.{inl}
