@@ -4,5 +4,6 @@ pub mod Chain
 pub mod Numbers
 pub mod Ends
 pub mod OnChain
+pub mod Further
 pub mod Theorem
 pub mod Examples

@@ -34,7 +34,7 @@ module _ (file : List ℕ) (k : ℕ) where
   member-end zero n e = refl
   member-end (suc links) n e = simp (eq-eqb n 0 e)
 
-  member-first : (links n : ℕ) → (n ≡ 0 → ⊥) → n ≡ k → member k (numbers file (suc links) n) ≡ true
+  pub member-first : (links n : ℕ) → (n ≡ 0 → ⊥) → n ≡ k → member k (numbers file (suc links) n) ≡ true
   unfolding numbers member
   member-first links n ne e = simp (ne-eqb n 0 ne, eq-eqb n k e)
 
@@ -42,6 +42,11 @@ module _ (file : List ℕ) (k : ℕ) where
       → member k (numbers file (suc links) n) ≡ member k (numbers file links (record-at file n .next))
   unfolding numbers member
   member-rest links n ne e = simp (ne-eqb n 0 ne, ne-eqb n k e)
+
+  pub member-later : (links n : ℕ) → (n ≡ 0 → ⊥) → member k (numbers file links (record-at file n .next)) ≡ true
+      → member k (numbers file (suc links) n) ≡ true
+  unfolding numbers member
+  member-later links n ne m = simp (ne-eqb n 0 ne) (or-true (eqb n k) m)
 
   -- the same over links of which there are some, as the code counts them
   module _ (links n : ℕ) (some : 0 < links) (ne : n ≡ 0 → ⊥) where

@@ -56,6 +56,9 @@ abbrev pub link-tests : (Record → List Test) → List ℕ → Bool → ℕ →
 link-tests further file seen n = missing file n ∷ returning seen ∷ record-tests further (record-at file n)
 
 -- what each list of tests comes to by itself
+abbrev pub further-outcome : (Record → List Test) → Record → Outcome Unit
+further-outcome further r = first (further r) (accepted tt)
+
 abbrev pub record-outcome : (Record → List Test) → Record → Outcome Unit
 record-outcome further r = first (record-tests further r) (accepted tt)
 

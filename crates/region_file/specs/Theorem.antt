@@ -1,15 +1,16 @@
 -- What users rely on: every chain ends within the number of links that its judgement looks at, and nothing off the chain is looked at.
--- Both hold whatever further tests a loader makes.
+-- Both hold whatever further tests a loader makes, and what these change is said too.
 use mathlib.Core.Path.{_≡_}
 use mathlib.Core.Bool.{true}
 use mathlib.Core.List.{List}
+use mathlib.Core.Logic.{_↔_}
 use Prim.Native.Nat.{ℕ, _≤_}
 use lib.ListN.{length}
 use Rattle.refusal.specs.Outcome.{accepted, Test}
 use Rattle.region_file.specs.declared.fields.Record.{Record}
 use Rattle.region_file.specs.Fields.{record-at, first-record, file-level, reserved-zero, most-records}
-use Rattle.region_file.specs.Chain.{numbers, chain-numbers}
-use Rattle.region_file.specs.Judge.{whole, nowhere, chain, judge-outcome}
+use Rattle.region_file.specs.Chain.{numbers, chain-numbers, on-chain}
+use Rattle.region_file.specs.Judge.{whole, no-further-tests, further-outcome, nowhere, chain, judge-outcome}
 
 -- a chain of a whole file is judged the same, however many links from most-records on the judgement looks at
 abbrev pub ChainsEnd : Type 0
@@ -36,7 +37,15 @@ abbrev pub OnlyTheChain : Type 1
 OnlyTheChain = (further : Record → List Test) (file other : List ℕ) (On : ℕ → Type 0) → SameOnChain file other On
     → judge-outcome further file ≡ judge-outcome further other
 
+-- a file is accepted with further tests exactly where the listing accepts it and each record of its chain passes them
+abbrev pub FurtherTests : Type 0
+FurtherTests = (further : Record → List Test) (file : List ℕ)
+    → (judge-outcome further file ≡ accepted tt)
+    ↔ ((judge-outcome no-further-tests file ≡ accepted tt)
+    × ((n : ℕ) → on-chain file n ≡ true → further-outcome further (record-at file n) ≡ accepted tt))
+
 pub record Theorems : Type 1 where
   pub chains-end : ChainsEnd
   pub whole-chain : WholeChain
   pub only-the-chain : OnlyTheChain
+  pub further-tests : FurtherTests
