@@ -47,7 +47,7 @@ module _ (further : Record → List Test) (file : List ℕ) where
   chain-end zero p v n e = absurd (lt-irrefl 0 p)
   chain-end (suc links) p v n e = simp (eq-eqb n 0 e)
 
-  -- an accepted chain has a link left
+  -- with no link left no chain is accepted
   pub chain-some : (v : ℕ → Bool) (n : ℕ) → chain further file zero v n ≡ accepted tt → ⊥
   unfolding chain
   chain-some v n e = accepted-refused (sym e)
@@ -66,7 +66,7 @@ module _ (further : Record → List Test) (file : List ℕ) where
     chain-next links e = simp (ne-eqb n 0 ne)
         (passed-before tt (chain further file links (also n v) (record-at file n .next)) (link-tests further file (v n) n) e)
 
-  -- an accepted chain has ended, or names a record that passes and goes on
+  -- an accepted chain has ended, or its link passes and the rest is accepted
   pub record Linked (links : ℕ) (v : ℕ → Bool) (n : ℕ) : Type 0 where
     pub some : n ≡ 0 → ⊥
     pub link : Passed further file (v n) n
@@ -100,7 +100,7 @@ whole-has bytes e =
 pub whole-few : (bytes : ℕ) → whole bytes ≡ true → bytes / record-bytes ≤ most-records
 whole-few bytes e = let m = whole-has bytes e .most in omega (arith, m)
 
--- what an accepted file has
+-- the chain of an accepted file is accepted
 pub judged-chain : (further : Record → List Test) (file : List ℕ) → judge-outcome further file ≡ accepted tt
     → chain further file most-records nowhere (first-record file) ≡ accepted tt
 unfolding judge-outcome

@@ -13,10 +13,11 @@ use lib.Seq.{getD-set-same, getD-set-other}
 use Rattle.region_file.specs.Fields.{most-records}
 use Rattle.region_file.specs.Judge.{nowhere, also}
 
--- the records that are marked, and how many are not
+-- record k is marked
 unfoldable pub marked : List ℕ → ℕ → Bool
 marked marks k = not (eqb (getD marks k 0) 0)
 
+-- the number of records that are not
 unfoldable pub free : List ℕ → ℕ
 free [] = zero
 free (zero ∷ ms) = suc (free ms)

@@ -48,7 +48,7 @@ module _ (file : List ℕ) (k : ℕ) where
   unfolding numbers member
   member-later links n ne m = simp (ne-eqb n 0 ne) (or-true (eqb n k) m)
 
-  -- the same over links of which there are some, as the code counts them
+  -- the same for a number of links that is not 0, as the code counts them
   module _ (links n : ℕ) (some : 0 < links) (ne : n ≡ 0 → ⊥) where
     pub member-here : n ≡ k → member k (numbers file links n) ≡ true
     member-here e = go links some

@@ -8,10 +8,11 @@ use mir.Syntax.{w32}
 use mir.Val.{toZ}
 use Rattle.region_file.specs.declared.fields.Record.{Record}
 
--- the bytes of a field, and of a record
+-- the bytes of a field
 abbrev pub field-bytes : ℕ
 field-bytes = 4
 
+-- the bytes of a record, which has eight fields
 abbrev pub record-bytes : ℕ
 record-bytes = 32
 
@@ -46,10 +47,11 @@ unfoldable pub zeros : List ℕ → ℕ → ℕ → Bool
 zeros file at zero = true
 zeros file at (suc n) = eqb (getD file at 0) 0 && zeros file (at + 1) n
 
--- the bytes of record 0 behind its two fields: bytes 8 to 31
+-- the first of the reserved bytes of record 0, which stand behind its two fields
 abbrev pub reserved-start : ℕ
 reserved-start = 8
 
+-- their number: bytes 8 to 31
 abbrev pub reserved-bytes : ℕ
 reserved-bytes = 24
 
@@ -61,9 +63,10 @@ reserved-zero file = zeros file reserved-start reserved-bytes
 abbrev pub records : List ℕ → ℕ
 records file = length file / record-bytes
 
--- the bytes of the longest file, and the records that it has
+-- the bytes of the longest file
 abbrev pub most-bytes : ℕ
 most-bytes = 65536
 
+-- the records of the longest file, record 0 included
 abbrev pub most-records : ℕ
 most-records = 2048

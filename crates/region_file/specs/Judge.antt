@@ -42,8 +42,8 @@ most-visits = 4096
 abbrev pub too-many : Record → Test
 too-many r = record { number = 15; holds = ltb most-visits (r .count) }
 
--- the tests of a record that the listing makes after 15: none. A loader that accepts fewer files has its own list, and every
--- definition below takes it as `further`.
+-- the tests of a record that the listing makes after 15: none. A loader that accepts fewer files gives a list of its own, which every
+-- definition below takes as `further`.
 abbrev pub no-further-tests : Record → List Test
 no-further-tests r = []
 
@@ -69,17 +69,17 @@ link-outcome further file seen n = first (link-tests further file seen n) (accep
 abbrev pub nowhere : ℕ → Bool
 nowhere k = false
 
--- n and those before it
+-- after a link that names n: n, and those before it
 abbrev pub also : ℕ → (ℕ → Bool) → ℕ → Bool
 also n visited k = eqb k n || visited k
 
--- the links from the number n on, after links that named the records `visited`. Number 0 ends the chain. A chain with more links
--- than `links` is refused under 14: of a whole file's chain only one that returns has so many (`Theorem`).
+-- the judgement of the links from the number n on, after links that named the records `visited`. Number 0 ends the chain. A chain that has
+-- not ended after `links` links is refused under 14; from most-records on the number of links never matters (`ChainsEnd`).
 unfoldable pub chain : (Record → List Test) → List ℕ → ℕ → (ℕ → Bool) → ℕ → Outcome Unit
 chain further file zero visited n = refused 14 []
 chain further file (suc links) visited n =
     cond (eqb n 0) (accepted tt) (first (link-tests further file (visited n) n) (chain further file links (also n visited) (record-at file n .next)))
 
--- the whole file
+-- the judgement of the whole file
 unfoldable pub judge-outcome : (Record → List Test) → List ℕ → Outcome Unit
 judge-outcome further file = first (head-tests file) (chain further file most-records nowhere (first-record file))

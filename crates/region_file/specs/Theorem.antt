@@ -1,5 +1,5 @@
--- What users rely on: every chain ends within the number of links that its judgement looks at, and nothing off the chain is looked at.
--- Both hold whatever further tests a loader makes, and what these change is said too.
+-- What users rely on: every chain ends within the number of links that its judgement looks at, nothing off the chain is looked at, and a
+-- loader with further tests accepts the files of the listing whose records pass them. All this holds for every list of further tests.
 use mathlib.Core.Path.{_≡_}
 use mathlib.Core.Bool.{true}
 use mathlib.Core.List.{List}

@@ -56,8 +56,8 @@ fn is_marked(marks: &[u8], at: usize) -> bool
     marks[at] != 0
 }
 
-// The links of the chain one after the other, with a mark for each record that a link has named. The loop ends since each link that
-// passes sets a mark that was not set.
+// The tests of all links, one link after the other, with a mark for each record that a link has named. The loop ends since each link
+// that passes sets a mark that was not set.
 pub(crate) fn judge_chain(file: &[u8]) -> Judgement
     requires { ⌜ records (now file) ≤ most-records ⌝ }
     ensures { λ r. ⌜ of-judgement r ≡ chain no-further-tests (now (file .entry)) most-records nowhere (first-record (now (file .entry))) ⌝ }
@@ -78,8 +78,8 @@ pub(crate) fn judge_chain(file: &[u8]) -> Judgement
     Judgement::Accepted
 }
 
-// Whether record n is on the chain, of any bytes. At most MOST_RECORDS links are followed, since the chain of a file that is not
-// accepted may return.
+// Whether record n is on the chain of a file. The chain of bytes that are not accepted may return, so at most MOST_RECORDS links are
+// followed; an accepted file has no more.
 pub fn on_chain(file: &[u8], n: u32) -> bool
     ensures { λ r. ⌜ r ≡ on-chain (now (file .entry)) n ⌝ }
 {

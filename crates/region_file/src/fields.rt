@@ -8,9 +8,10 @@ ghost use mir.Syntax.{w32};
 ghost use mir.Val.{toZ};
 ghost use Rattle.region_file.specs.Fields.{field, record-at, first-record, records};
 
-// The bytes of a record, and of each of its eight fields.
+// The bytes of a record.
 pub(crate) const RECORD_BYTES: usize = 32;
 
+// The bytes of a field. A record has eight.
 const FIELD_BYTES: usize = 4;
 
 // The records of the longest file, record 0 included.
@@ -52,7 +53,7 @@ pub(crate) fn field(file: &[u8], n: u32, k: u32) -> u32
         + byte_at(file, at + 3) * 16777216
 }
 
-// The number that a field in two's complement holds.
+// A field in two's complement, as a number.
 pub fn signed(word: u32) -> i32
     ensures { λ r. ⌜ r ≡ toZ w32 word ⌝ }
 {

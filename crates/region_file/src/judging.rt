@@ -15,9 +15,10 @@ ghost use Rattle.region_file.specs.Judge.{whole, no-further-tests, judge
 // The bytes of the longest file.
 const MOST_BYTES: usize = 65536;
 
-// The reserved bytes of record 0: where they start, and their number.
+// The first reserved byte of record 0. The two fields of record 0 stand before it.
 const RESERVED_START: usize = 8;
 
+// The number of reserved bytes.
 const RESERVED_BYTES: usize = 24;
 
 // Whether `count` bytes are zero, the first of which is byte `start`.
