@@ -56,10 +56,11 @@ pub record Theorems : Type 0 where
   -- ONE claim about the list of steps from the walk that `open` gives
   pub listed : (file : List ℕ) (p q : FileWalk) (ss : List Step) → of-opened-file file (opened.Open p) ≡ visits-outcome file
       → Steps file p ss q → ss ≡ file-answers (length ss) (file-visits file)
-  -- the visits of a file that is accepted, by the listing or with further tests, are those and no others
+  -- of an accepted file, whatever further tests it passed: a visit is among the file's visits exactly where its record is on the chain, its
+  -- index is below the record's count, and its position is where the visit of the record with that index lies
   pub visit-iff : (further : Record → List Test) (file : List ℕ) → judge-outcome further file ≡ accepted tt
       → (v : FileVisit) → Among v (file-visits file) ↔ VisitOf file v
-  -- no record and index occur twice among them: once where the record is on the chain and has so many visits, and else never
+  -- and no record and index occur twice: once where the record is on the chain and the index below its count, and else never
   pub once : (further : Record → List Test) (file : List ℕ) → judge-outcome further file ≡ accepted tt
       → (n i : ℕ) → visits-at n i (file-visits file)
       ≡ cond (on-chain file n && ltb i (planned file n .count)) (file-visit n (planned file n) i ∷ []) []
