@@ -2,7 +2,7 @@
 use Prim.Native.Nat.{ℕ}
 use mathlib.Core.List.{List, [], _++_}
 use Rattle.text.specs.Pieces.{Piece}
-use Rattle.visits.specs.FileWalk.{to-come as visits-to-come}
+use Rattle.visits.specs.FileWalk.{visits-to-come}
 use Rattle.listing.specs.declared.cursors.Lead.{Lead}
 use Rattle.listing.specs.declared.cursors.Lead.the-variants as lead
 use Rattle.listing.specs.declared.cursors.Cursor.{Cursor}

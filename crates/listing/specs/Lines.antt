@@ -4,7 +4,7 @@ use mathlib.Core.Path.{_≡_}
 use mathlib.Core.List.{List, [], _++_}
 use lib.ListN.{length, take, drop}
 use Rattle.visits.specs.declared.file_walks.FileWalk.{FileWalk}
-use Rattle.visits.specs.FileWalk.{to-come}
+use Rattle.visits.specs.FileWalk.{visits-to-come}
 use Rattle.listing.specs.Listing.{lines, longest-line}
 
 -- From the walk p and the buffer d, filled to `at`, to the walk q and the buffer e, filled to len: together with the lines to come, what
@@ -12,6 +12,6 @@ use Rattle.listing.specs.Listing.{lines, longest-line}
 pub record LinesPut (file : List ℕ) (p : FileWalk) (d : List ℕ) (at : ℕ) (q : FileWalk) (e : List ℕ) (len : ℕ) : Type 0 where
   pub on : at ≤ len
   pub fits : len ≤ length e
-  pub joins : take len e ++ lines (to-come file q) ≡ take at d ++ lines (to-come file p)
-  pub stops : len + longest-line ≤ length e → to-come file q ≡ []
+  pub joins : take len e ++ lines (visits-to-come file q) ≡ take at d ++ lines (visits-to-come file p)
+  pub stops : len + longest-line ≤ length e → visits-to-come file q ≡ []
   pub beyond : drop len e ≡ drop len d

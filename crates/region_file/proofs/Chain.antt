@@ -1,4 +1,5 @@
--- One link of the chain, by the cases of the code, and what an accepted link and an accepted file have.
+-- The laws of `chain` and `whole`, one for each case of the code, and what an accepted link, chain or file has. They hold for every list of
+-- further tests.
 -- Assumes nothing.
 use mathlib.Core.Path.{_≡_, refl, sym}
 use mathlib.Core.Bool.{Bool, true, false, cond, not}
@@ -7,80 +8,86 @@ use mathlib.Core.Logic.{_⊎_, inl, inr}
 use Prim.Native.Nat.{ℕ, zero, suc, _%_, _/_, _≤_, _<_}
 use native.Mathlib.Nat.{lt-irrefl}
 use native.Mathlib.Omega.{arith}
-use lib.Dec.{eqb, leb, ltb}
 use borrow.Author.Tests.{eq-eqb, ne-eqb, eqb-true, eqb-false, leb-false, ltb-false, not-true, not-false}
-use Rattle.refusal.specs.Outcome.{Outcome, accepted, refused, first}
-use Rattle.refusal.proofs.First.{accepted-refused, all-pass, refused-before, passed-before}
+use lib.Dec.{eqb, leb, ltb}
+use Rattle.refusal.specs.Outcome.{Outcome, accepted, refused, Test, first}
+use Rattle.refusal.proofs.First.{accepted-refused, AllPass, all-pass, refused-before, passed-before}
 use Rattle.stage.specs.Region.{within}
 use Rattle.stage.proofs.Limits.{both}
-use Rattle.region_file.specs.Fields.{record-at, first-record, records, most-records}
-use Rattle.region_file.specs.Judge.{whole, head-tests, link-tests, link-outcome, nowhere, also, chain, judge-outcome}
+use Rattle.region_file.specs.declared.fields.Record.{Record}
+use Rattle.region_file.specs.Fields.{record-bytes, most-bytes, record-at, first-record, records, most-records}
+use Rattle.region_file.specs.Judge.{whole, head-tests, most-visits, link-tests, link-outcome, nowhere, also, chain, judge-outcome}
 
--- a record that passes the tests of a link
-pub record Passed (limit : ℕ) (file : List ℕ) (seen : Bool) (n : ℕ) : Type 0 where
+-- what a record has that passes its own tests
+pub record Sound (further : Record → List Test) (r : Record) : Type 0 where
+  pub inside : within (r .region) ≡ true
+  pub few : r .count ≤ most-visits
+  pub others : AllPass (further r)
+
+-- what a link has that passes its tests
+pub record Passed (further : Record → List Test) (file : List ℕ) (seen : Bool) (n : ℕ) : Type 0 where
   pub here : n < records file
   pub fresh : seen ≡ false
-  pub inside : within (record-at file n .region) ≡ true
-  pub few : record-at file n .count ≤ limit
+  pub sound : Sound further (record-at file n)
 
-module _ {A : Type 0} {after : Outcome A} {b : A} (limit : ℕ) (file : List ℕ) (seen : Bool) (n : ℕ) where
-  pub passed : first (link-tests limit file seen n) after ≡ accepted b → Passed limit file seen n × (after ≡ accepted b)
+module _ {A : Type 0} {after : Outcome A} {b : A} (further : Record → List Test) (file : List ℕ) (seen : Bool) (n : ℕ) where
+  pub passed : first (link-tests further file seen n) after ≡ accepted b → Passed further file seen n × (after ≡ accepted b)
   passed e =
       let r = record-at file n in
-      let p = all-pass after (link-tests limit file seen n) e in
+      let p = all-pass after (link-tests further file seen n) e in
       let here : leb (records file) n ≡ false = search p in
       let inside : not (within (r .region)) ≡ false = search p in
-      let few : ltb limit (r .count) ≡ false = search p in (
-        record { here = leb-false (records file) n here; fresh = search p; inside = not-false _ inside; few = ltb-false limit (r .count) few },
-        p .1,
-      )
+      let few : ltb most-visits (r .count) ≡ false = search p in
+      let sound : Sound further r = record { inside = not-false _ inside; few = ltb-false most-visits (r .count) few; others = search p } in
+      (record { here = leb-false (records file) n here; fresh = search p; sound = sound }, p .1)
 
-module _ (limit : ℕ) (file : List ℕ) where
-  pub chain-end : (links : ℕ) → 0 < links → (v : ℕ → Bool) (n : ℕ) → n ≡ 0 → chain limit file links v n ≡ accepted tt
+module _ (further : Record → List Test) (file : List ℕ) where
+  pub chain-end : (links : ℕ) → 0 < links → (v : ℕ → Bool) (n : ℕ) → n ≡ 0 → chain further file links v n ≡ accepted tt
   unfolding chain
   chain-end zero p v n e = absurd (lt-irrefl 0 p)
   chain-end (suc links) p v n e = simp (eq-eqb n 0 e)
 
-  -- an accepted chain has a link left
-  pub chain-some : (v : ℕ → Bool) (n : ℕ) → chain limit file zero v n ≡ accepted tt → ⊥
+  -- with no link left no chain is accepted
+  pub chain-some : (v : ℕ → Bool) (n : ℕ) → chain further file zero v n ≡ accepted tt → ⊥
   unfolding chain
   chain-some v n e = accepted-refused (sym e)
 
   module _ (v : ℕ → Bool) (n : ℕ) (ne : n ≡ 0 → ⊥) where
-    pub chain-refused : (links : ℕ) → 0 < links → {k : ℕ} {vs : List ℕ} → link-outcome limit file (v n) n ≡ refused k vs
-        → chain limit file links v n ≡ refused k vs
+    pub chain-refused : (links : ℕ) → 0 < links → {k : ℕ} {vs : List ℕ} → link-outcome further file (v n) n ≡ refused k vs
+        → chain further file links v n ≡ refused k vs
     unfolding chain
     chain-refused zero p e = absurd (lt-irrefl 0 p)
     chain-refused (suc links) p e = simp (ne-eqb n 0 ne)
-        (refused-before tt (chain limit file links (also n v) (record-at file n .next)) (link-tests limit file (v n) n) e)
+        (refused-before tt (chain further file links (also n v) (record-at file n .next)) (link-tests further file (v n) n) e)
 
-    pub chain-next : (links : ℕ) → link-outcome limit file (v n) n ≡ accepted tt
-        → chain limit file (suc links) v n ≡ chain limit file links (also n v) (record-at file n .next)
+    pub chain-next : (links : ℕ) → link-outcome further file (v n) n ≡ accepted tt
+        → chain further file (suc links) v n ≡ chain further file links (also n v) (record-at file n .next)
     unfolding chain
     chain-next links e = simp (ne-eqb n 0 ne)
-        (passed-before tt (chain limit file links (also n v) (record-at file n .next)) (link-tests limit file (v n) n) e)
+        (passed-before tt (chain further file links (also n v) (record-at file n .next)) (link-tests further file (v n) n) e)
 
-  -- an accepted chain has ended, or names a record that passes and goes on
+  -- an accepted chain has ended, or its link passes and the rest is accepted
   pub record Linked (links : ℕ) (v : ℕ → Bool) (n : ℕ) : Type 0 where
     pub some : n ≡ 0 → ⊥
-    pub link : Passed limit file (v n) n
-    pub rest : chain limit file links (also n v) (record-at file n .next) ≡ accepted tt
+    pub link : Passed further file (v n) n
+    pub rest : chain further file links (also n v) (record-at file n .next) ≡ accepted tt
 
-  pub linked : (links : ℕ) (v : ℕ → Bool) (n : ℕ) → chain limit file (suc links) v n ≡ accepted tt → (n ≡ 0) ⊎ Linked links v n
+  pub linked : (links : ℕ) (v : ℕ → Bool) (n : ℕ) → chain further file (suc links) v n ≡ accepted tt → (n ≡ 0) ⊎ Linked links v n
   unfolding chain
   linked links v n h = go (eqb n 0) refl h
     where
       go : (z : Bool) → eqb n 0 ≡ z
-          → cond z (accepted tt) (first (link-tests limit file (v n) n) (chain limit file links (also n v) (record-at file n .next))) ≡ accepted tt
+          → cond z (accepted tt) (first (link-tests further file (v n) n) (chain further file links (also n v) (record-at file n .next)))
+          ≡ accepted tt
           → (n ≡ 0) ⊎ Linked links v n
       go true e h = inl (eqb-true n 0 e)
-      go false e h = let p = passed limit file (v n) n h in inr (record { some = eqb-false n 0 e; link = p .0; rest = p .1 })
+      go false e h = let p = passed further file (v n) n h in inr (record { some = eqb-false n 0 e; link = p .0; rest = p .1 })
 
 -- what a whole file has
 pub record Whole (bytes : ℕ) : Type 0 where
   pub some : 0 < bytes
-  pub most : bytes ≤ 65536
-  pub even : bytes % 32 ≡ 0
+  pub most : bytes ≤ most-bytes
+  pub even : bytes % record-bytes ≡ 0
 
 pub whole-has : (bytes : ℕ) → whole bytes ≡ true → Whole bytes
 unfolding whole
@@ -88,13 +95,13 @@ whole-has bytes e =
     let one = both _ _ e in
     let two = both _ _ (one .1) in
     let some = eqb-false bytes 0 (not-true _ (one .0)) in
-    record { some = omega (arith, some); most = ltb-false 65536 bytes (not-true _ (two .0)); even = eqb-true (bytes % 32) 0 (two .1) }
+    record { some = omega (arith, some); most = ltb-false most-bytes bytes (not-true _ (two .0)); even = eqb-true (bytes % record-bytes) 0 (two .1) }
 
-pub whole-few : (bytes : ℕ) → whole bytes ≡ true → bytes / 32 ≤ most-records
+pub whole-few : (bytes : ℕ) → whole bytes ≡ true → bytes / record-bytes ≤ most-records
 whole-few bytes e = let m = whole-has bytes e .most in omega (arith, m)
 
--- what an accepted file has
-pub judged-chain : (limit : ℕ) (file : List ℕ) → judge-outcome limit file ≡ accepted tt
-    → chain limit file most-records nowhere (first-record file) ≡ accepted tt
+-- the chain of an accepted file is accepted
+pub judged-chain : (further : Record → List Test) (file : List ℕ) → judge-outcome further file ≡ accepted tt
+    → chain further file most-records nowhere (first-record file) ≡ accepted tt
 unfolding judge-outcome
-judged-chain limit file e = all-pass (chain limit file most-records nowhere (first-record file)) (head-tests file) e .1
+judged-chain further file e = all-pass (chain further file most-records nowhere (first-record file)) (head-tests file) e .1

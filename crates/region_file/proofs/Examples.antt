@@ -7,7 +7,7 @@ use lib.ListN.{replicate, take}
 use Rattle.refusal.specs.Outcome.{Outcome, accepted, refused, first}
 use Rattle.stage.specs.Region.{within}
 use Rattle.region_file.specs.Fields.{word-at, record-at, zeros}
-use Rattle.region_file.specs.Judge.{whole, chain, judge-outcome, most-visits}
+use Rattle.region_file.specs.Judge.{whole, chain, judge-outcome, no-further-tests}
 
 -- words as bytes, the lowest first
 unfoldable bytes : List ℕ → List ℕ
@@ -23,7 +23,7 @@ unfoldable one : ℕ → ℕ → ℕ → List ℕ
 one next width count = next ∷ 0xFFFFFE0C ∷ 0 ∷ width ∷ 800 ∷ 0 ∷ 0 ∷ count ∷ []
 
 abbrev judged : List ℕ → Outcome Unit
-judged file = judge-outcome most-visits file
+judged file = judge-outcome no-further-tests file
 
 record Judged : Type 0 where
   example : judged (file-of 1 2 (one 0 1000 4)) ≡ accepted tt

@@ -1,4 +1,4 @@
--- A mark for each record: 0 where no link has named it.
+-- A mark for each record, 0 where no link has named it: the marked records as a function, and the number of those that are free.
 -- Assumes nothing.
 use mathlib.Core.Path.{_≡_, refl, ap, _∙_}
 use mathlib.Core.Bool.{Bool, true, false, not, _||_}
@@ -6,17 +6,18 @@ use mathlib.Core.List.{List, [], _∷_}
 use Prim.Native.Nat.{ℕ, zero, suc, _<_}
 use native.Mathlib.Nat.{not-suc-le-zero, le-of-suc-le-suc}
 use native.Mathlib.Omega.{arith}
+use borrow.Author.Tests.{eqb-true, eqb-false, not-false}
 use lib.Dec.{eqb}
 use lib.ListN.{length, getD, set, replicate}
 use lib.Seq.{getD-set-same, getD-set-other}
-use borrow.Author.Tests.{eqb-true, eqb-false, not-false}
 use Rattle.region_file.specs.Fields.{most-records}
 use Rattle.region_file.specs.Judge.{nowhere, also}
 
--- the records that are marked, and how many are not
+-- record k is marked
 unfoldable pub marked : List ℕ → ℕ → Bool
 marked marks k = not (eqb (getD marks k 0) 0)
 
+-- the number of records that are not
 unfoldable pub free : List ℕ → ℕ
 free [] = zero
 free (zero ∷ ms) = suc (free ms)

@@ -1,8 +1,10 @@
--- What users rely on.
+-- What users rely on: one term of `Theorems`.
 -- Assumes nothing.
 use Rattle.region_file.specs.Theorem.{Theorems}
+use Rattle.region_file.proofs.Numbers.{whole-chain}
 use Rattle.region_file.proofs.Ends.{chains-end}
 use Rattle.region_file.proofs.OnChain.{only-the-chain}
+use Rattle.region_file.proofs.Further.{further-tests}
 
 pub theorems : Theorems
-theorems = record { chains-end = chains-end; only-the-chain = only-the-chain }
+theorems = record { chains-end = chains-end; whole-chain = whole-chain; only-the-chain = only-the-chain; further-tests = further-tests }

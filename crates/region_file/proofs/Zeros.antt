@@ -1,4 +1,4 @@
--- Zero bytes, as the code looks at them.
+-- The laws of `zeros`, one for each case of the code's loop.
 -- Assumes nothing.
 use mathlib.Core.Path.{_≡_, refl, sym, ap, _∙_}
 use mathlib.Core.Bool.{true, false}
@@ -6,8 +6,8 @@ use mathlib.Core.List.{List}
 use Prim.Native.Nat.{ℕ, zero, suc, _+_, _-_, _≤_, _<_}
 use native.Mathlib.Nat.{lt-irrefl}
 use native.Mathlib.Omega.{arith}
-use lib.ListN.{getD}
 use borrow.Author.Tests.{eq-eqb, ne-eqb}
+use lib.ListN.{getD}
 use Rattle.region_file.specs.Fields.{zeros}
 
 pub zeros-none : (file : List ℕ) (at n : ℕ) → n ≤ 0 → zeros file at n ≡ true

@@ -1,22 +1,30 @@
 -- The fields of a region file: records of 32 bytes, each of eight little-endian words. Bytes past the end count as 0.
-use Prim.Native.Nat.{ℕ, zero, suc, _+_, _*_, _/_}
 use mathlib.Core.Bool.{Bool, true, _&&_}
 use mathlib.Core.List.{List}
+use Prim.Native.Nat.{ℕ, zero, suc, _+_, _*_, _/_, _^_}
 use lib.Dec.{eqb}
 use lib.ListN.{length, getD}
 use Rattle.signed.specs.Words.{cast-signed}
 use Rattle.region_file.specs.declared.fields.Record.{Record}
 
--- four bytes from a place on, the lowest first
+-- the bytes of a field
+abbrev pub field-bytes : ℕ
+field-bytes = 4
+
+-- the bytes of a record, which has eight fields
+abbrev pub record-bytes : ℕ
+record-bytes = 32
+
+-- the word of the four bytes that begin at a byte, the lowest first
 unfoldable pub word-at : List ℕ → ℕ → ℕ
-word-at file at = getD file at 0 + getD file (at + 1) 0 * 256 + getD file (at + 2) 0 * 65536 + getD file (at + 3) 0 * 16777216
+word-at file at = getD file at 0 + getD file (at + 1) 0 * 2 ^ 8 + getD file (at + 2) 0 * 2 ^ 16 + getD file (at + 3) 0 * 2 ^ 24
 
 -- field k of record n
 abbrev pub field : List ℕ → ℕ → ℕ → ℕ
-field file n k = word-at file (n * 32 + k * 4)
+field file n k = word-at file (n * record-bytes + k * field-bytes)
 
 -- record n of a chain: next, left, top, width, height, the two words of the digital shift (01: scramble), count.
--- Left and top are in two's complement
+-- Left and top are in two's complement.
 unfoldable pub record-at : List ℕ → ℕ → Record
 record-at file n = record {
   next = field file n 0;
@@ -25,26 +33,39 @@ record-at file n = record {
   count = field file n 7;
 }
 
--- record 0: the number of the first record of the chain, and the level
+-- the number of the chain's first record, the first field of record 0
 abbrev pub first-record : List ℕ → ℕ
 first-record file = field file 0 0
 
-abbrev pub level : List ℕ → ℕ
-level file = field file 0 1
+-- the level, the second field of record 0
+abbrev pub file-level : List ℕ → ℕ
+file-level file = field file 0 1
 
--- so many bytes from a place on are zero
+-- n bytes are zero, the first of which is byte `at`
 unfoldable pub zeros : List ℕ → ℕ → ℕ → Bool
 zeros file at zero = true
 zeros file at (suc n) = eqb (getD file at 0) 0 && zeros file (at + 1) n
 
--- bytes 8 to 31, which record 0 keeps free
+-- the first of the reserved bytes of record 0, which stand behind its two fields
+abbrev pub reserved-start : ℕ
+reserved-start = 8
+
+-- their number: bytes 8 to 31
+abbrev pub reserved-bytes : ℕ
+reserved-bytes = 24
+
+-- they are all zero
 abbrev pub reserved-zero : List ℕ → Bool
-reserved-zero file = zeros file 8 24
+reserved-zero file = zeros file reserved-start reserved-bytes
 
--- how many whole records the bytes hold, record 0 included
+-- the number of whole records that the bytes hold, record 0 included
 abbrev pub records : List ℕ → ℕ
-records file = length file / 32
+records file = length file / record-bytes
 
--- a file of 65,536 bytes has so many
+-- the bytes of the longest file
+abbrev pub most-bytes : ℕ
+most-bytes = 65536
+
+-- the records of the longest file, record 0 included
 abbrev pub most-records : ℕ
 most-records = 2048

@@ -1,18 +1,18 @@
 -- What the judgement of a region file comes to: tests of the file and its record 0, and then of each link of the chain.
-use Prim.Native.Nat.{ℕ, zero, suc, _%_}
 use mathlib.Core.Bool.{Bool, false, cond, not, _&&_, _||_}
 use mathlib.Core.List.{List, [], _∷_}
+use Prim.Native.Nat.{ℕ, zero, suc, _%_}
 use lib.Dec.{eqb, leb, ltb}
 use lib.ListN.{length}
 use Rattle.refusal.specs.Outcome.{Outcome, accepted, refused, Test, first}
 use Rattle.plan.specs.Pair.{unknown-level}
 use Rattle.stage.specs.Region.{outside}
 use Rattle.region_file.specs.declared.fields.Record.{Record}
-use Rattle.region_file.specs.Fields.{record-at, first-record, level, reserved-zero, records, most-records}
+use Rattle.region_file.specs.Fields.{record-bytes, record-at, first-record, file-level, reserved-zero, records, most-bytes, most-records}
 
--- not empty, at most 65,536 bytes, and whole records
+-- not empty, not longer than the longest file, and whole records
 unfoldable pub whole : ℕ → Bool
-whole bytes = not (eqb bytes 0) && (not (ltb 65536 bytes) && eqb (bytes % 32) 0)
+whole bytes = not (eqb bytes 0) && (not (ltb most-bytes bytes) && eqb (bytes % record-bytes) 0)
 
 -- 11: not a whole file
 abbrev pub not-whole : List ℕ → Test
@@ -24,7 +24,7 @@ reserved-used file = record { number = 12; holds = not (reserved-zero file) }
 
 -- the tests of the file and its record 0, in order
 abbrev pub head-tests : List ℕ → List Test
-head-tests file = not-whole file ∷ unknown-level (level file) ∷ reserved-used file ∷ []
+head-tests file = not-whole file ∷ unknown-level (file-level file) ∷ reserved-used file ∷ []
 
 -- 13: the file has no record n
 abbrev pub missing : List ℕ → ℕ → Test
@@ -34,41 +34,52 @@ missing file n = record { number = 13; holds = leb (records file) n }
 abbrev pub returning : Bool → Test
 returning seen = record { number = 14; holds = seen }
 
--- 15: more visits than the limit
-abbrev pub too-many : ℕ → Record → Test
-too-many limit r = record { number = 15; holds = ltb limit (r .count) }
+-- the largest count of visits that a record may have
+abbrev pub most-visits : ℕ
+most-visits = 4096
 
--- the tests of the record n that a link names, in order
-abbrev pub link-tests : ℕ → List ℕ → Bool → ℕ → List Test
-link-tests limit file seen n =
-    missing file n
-    ∷ returning seen
-    ∷ outside (record-at file n .region)
-    ∷ too-many limit (record-at file n)
-    ∷ []
+-- 15: the count is above it
+abbrev pub too-many : Record → Test
+too-many r = record { number = 15; holds = ltb most-visits (r .count) }
 
--- what they come to by themselves
-abbrev pub link-outcome : ℕ → List ℕ → Bool → ℕ → Outcome Unit
-link-outcome limit file seen n = first (link-tests limit file seen n) (accepted tt)
+-- the tests of a record that the listing makes after 15: none. A loader that accepts fewer files gives a list of its own, which every
+-- definition below takes as `further`.
+abbrev pub no-further-tests : Record → List Test
+no-further-tests r = []
 
--- the records that links have named: none, and n besides others
+-- the tests of a record by itself, in order
+abbrev pub record-tests : (Record → List Test) → Record → List Test
+record-tests further r = outside (r .region) ∷ too-many r ∷ further r
+
+-- the tests of a link that names record n, in order. `seen`: an earlier link named it.
+abbrev pub link-tests : (Record → List Test) → List ℕ → Bool → ℕ → List Test
+link-tests further file seen n = missing file n ∷ returning seen ∷ record-tests further (record-at file n)
+
+-- what each list of tests comes to by itself
+abbrev pub further-outcome : (Record → List Test) → Record → Outcome Unit
+further-outcome further r = first (further r) (accepted tt)
+
+abbrev pub record-outcome : (Record → List Test) → Record → Outcome Unit
+record-outcome further r = first (record-tests further r) (accepted tt)
+
+abbrev pub link-outcome : (Record → List Test) → List ℕ → Bool → ℕ → Outcome Unit
+link-outcome further file seen n = first (link-tests further file seen n) (accepted tt)
+
+-- the records that links have named: none before the first link
 abbrev pub nowhere : ℕ → Bool
 nowhere k = false
 
+-- after a link that names n: n, and those before it
 abbrev pub also : ℕ → (ℕ → Bool) → ℕ → Bool
 also n visited k = eqb k n || visited k
 
--- the chain from the number n on, after links that visited the records before. Number 0 ends it. A chain with more links than it may have
--- has returned to a record (`Theorem`)
-unfoldable pub chain : ℕ → List ℕ → ℕ → (ℕ → Bool) → ℕ → Outcome Unit
-chain limit file zero visited n = refused 14 []
-chain limit file (suc links) visited n =
-    cond (eqb n 0) (accepted tt) (first (link-tests limit file (visited n) n) (chain limit file links (also n visited) (record-at file n .next)))
+-- the judgement of the links from the number n on, after links that named the records `visited`. Number 0 ends the chain. A chain that has
+-- not ended after `links` links is refused under 14; from most-records on the number of links never matters (`ChainsEnd`).
+unfoldable pub chain : (Record → List Test) → List ℕ → ℕ → (ℕ → Bool) → ℕ → Outcome Unit
+chain further file zero visited n = refused 14 []
+chain further file (suc links) visited n =
+    cond (eqb n 0) (accepted tt) (first (link-tests further file (visited n) n) (chain further file links (also n visited) (record-at file n .next)))
 
--- the whole file. No chain has more links than a file can have records (`Theorem`)
-unfoldable pub judge-outcome : ℕ → List ℕ → Outcome Unit
-judge-outcome limit file = first (head-tests file) (chain limit file most-records nowhere (first-record file))
-
--- the largest count of visits that the listing accepts
-abbrev pub most-visits : ℕ
-most-visits = 4096
+-- the judgement of the whole file
+unfoldable pub judge-outcome : (Record → List Test) → List ℕ → Outcome Unit
+judge-outcome further file = first (head-tests file) (chain further file most-records nowhere (first-record file))

@@ -1,3 +1,4 @@
 pub mod Fields
+pub mod Chain
 pub mod Judge
 pub mod Theorem

@@ -1,4 +1,6 @@
 // The chain: each link names a record, which is judged whole before the next link is read.
+use crate::fields::MOST_RECORDS;
+use crate::fields::Record;
 use crate::fields::first_record;
 use crate::fields::record_at;
 use crate::fields::record_count;
@@ -11,11 +13,29 @@ ghost use lib.Dec.{eqb};
 ghost use lib.ListN.{getD};
 ghost use Rattle.refusal.specs.Refusal.{of-judgement};
 ghost use Rattle.region_file.specs.Fields.{first-record, records, most-records};
-ghost use Rattle.region_file.specs.Judge.{link-outcome, chain, nowhere};
+ghost use Rattle.region_file.specs.Chain.{on-chain};
+ghost use Rattle.region_file.specs.Judge.{no-further-tests, record-outcome, link-outcome, chain, nowhere};
 
-// The record that a link names, in the order of 01; seen: an earlier link named it.
-fn judge_link(file: &[u8], n: u32, seen: bool, limit: u32) -> Judgement
-    ensures { λ r. ⌜ of-judgement r ≡ link-outcome limit (now (file .entry)) seen n ⌝ }
+// The largest count of visits that a record may have.
+const MOST_VISITS: u32 = 4096;
+
+// The tests of a record by itself, 10 and 15. A loader that makes further tests makes them here, after 15.
+fn judge_record(named: Record) -> Judgement
+    ensures { λ r. ⌜ of-judgement r ≡ record-outcome no-further-tests named ⌝ }
+{
+    let region = named.region;
+    if !region.within() {
+        return Judgement::Refused(Refusal::Region);
+    }
+    if MOST_VISITS < named.count {
+        return Judgement::Refused(Refusal::VisitCount);
+    }
+    Judgement::Accepted
+}
+
+// The tests of a link that names record n: 13, 14, and then those of the record. `seen`: an earlier link named it.
+fn judge_link(file: &[u8], n: u32, seen: bool) -> Judgement
+    ensures { λ r. ⌜ of-judgement r ≡ link-outcome no-further-tests (now (file .entry)) seen n ⌝ }
 {
     if record_count(file) <= n as usize {
         return Judgement::Refused(Refusal::MissingRecord);
@@ -23,17 +43,10 @@ fn judge_link(file: &[u8], n: u32, seen: bool, limit: u32) -> Judgement
     if seen {
         return Judgement::Refused(Refusal::ChainReturns);
     }
-    let named = record_at(file, n);
-    let region = named.region;
-    if !region.within() {
-        return Judgement::Refused(Refusal::Region);
-    }
-    if limit < named.count {
-        return Judgement::Refused(Refusal::VisitCount);
-    }
-    Judgement::Accepted
+    judge_record(record_at(file, n))
 }
 
+// Whether the mark `at` is set. Past the end of the marks none is.
 fn is_marked(marks: &[u8], at: usize) -> bool
     ensures { λ r. ⌜ r ≡ not (eqb (getD (now (marks .entry)) at 0) 0) ⌝ }
 {
@@ -43,17 +56,18 @@ fn is_marked(marks: &[u8], at: usize) -> bool
     marks[at] != 0
 }
 
-// Link by link, with a mark for each record that a link has named.
-pub(crate) fn judge_chain(file: &[u8], limit: u32) -> Judgement
+// The tests of all links, one link after the other, with a mark for each record that a link has named. The loop ends since each link
+// that passes sets a mark that was not set.
+pub(crate) fn judge_chain(file: &[u8]) -> Judgement
     requires { ⌜ records (now file) ≤ most-records ⌝ }
-    ensures { λ r. ⌜ of-judgement r ≡ chain limit (now (file .entry)) most-records nowhere (first-record (now (file .entry))) ⌝ }
+    ensures { λ r. ⌜ of-judgement r ≡ chain no-further-tests (now (file .entry)) most-records nowhere (first-record (now (file .entry))) ⌝ }
 {
-    let mut marks = [0u8; 2048];
+    let mut marks = [0u8; MOST_RECORDS as usize];
     let mut n = first_record(file);
     while n != 0 {
         let at = n as usize;
         let seen = is_marked(&marks, at);
-        let judged = judge_link(file, n, seen, limit);
+        let judged = judge_link(file, n, seen);
         if let Judgement::Refused(why) = judged {
             return Judgement::Refused(why);
         }
@@ -62,4 +76,25 @@ pub(crate) fn judge_chain(file: &[u8], limit: u32) -> Judgement
         n = passed.next;
     }
     Judgement::Accepted
+}
+
+// Whether record n is on the chain of a file. The chain of bytes that are not accepted may return, so at most MOST_RECORDS links are
+// followed; an accepted file has no more.
+pub fn on_chain(file: &[u8], n: u32) -> bool
+    ensures { λ r. ⌜ r ≡ on-chain (now (file .entry)) n ⌝ }
+{
+    let mut number = first_record(file);
+    let mut links = MOST_RECORDS;
+    while links > 0 {
+        if number == 0 {
+            return false;
+        }
+        if number == n {
+            return true;
+        }
+        let passed = record_at(file, number);
+        number = passed.next;
+        links -= 1;
+    }
+    false
 }

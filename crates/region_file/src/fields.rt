@@ -1,4 +1,4 @@
-// The fields of a file. Bytes past its end count as 0, so that every record number names a record.
+// The fields of a file. Bytes past its end count as 0, so every number names a record.
 use plan::Shift;
 use signed::cast_signed;
 use stage::Region;
@@ -7,7 +7,16 @@ ghost use Prim.Native.Nat.{_<_};
 ghost use lib.ListN.{getD};
 ghost use Rattle.region_file.specs.Fields.{field, record-at, first-record, records};
 
-// A record of the chain: the number of the next one, where to look, the digital shift, and how many visits.
+// The bytes of a record.
+pub(crate) const RECORD_BYTES: usize = 32;
+
+// The bytes of a field. A record has eight.
+const FIELD_BYTES: usize = 4;
+
+// The records of the longest file, record 0 included.
+pub const MOST_RECORDS: u32 = 2048;
+
+// A record of the chain: the number of the next record, the region, the digital shift (01: scramble), and the count of visits.
 pub struct Record {
     pub next: u32,
     pub region: Region,
@@ -15,12 +24,14 @@ pub struct Record {
     pub count: u32,
 }
 
+// A byte as a word. As a function of its own it spares its callers the proof that a byte fits.
 fn wide(b: u8) -> u32
     ensures { λ r. ⌜ (r ≡ b) × (r < 256) ⌝ }
 {
     b as u32
 }
 
+// Byte `at`, or 0 past the end.
 fn byte_at(file: &[u8], at: usize) -> u32
     ensures { λ r. ⌜ (r ≡ getD (now (file .entry)) at 0) × (r < 256) ⌝ }
 {
@@ -30,17 +41,18 @@ fn byte_at(file: &[u8], at: usize) -> u32
     0
 }
 
-// Field k of record n, little-endian.
+// Field k of record n: four bytes, the lowest first, so each weighs 256 times the one before it.
 pub(crate) fn field(file: &[u8], n: u32, k: u32) -> u32
     ensures { λ r. ⌜ r ≡ field (now (file .entry)) n k ⌝ }
 {
-    let at = n as usize * 32 + k as usize * 4;
+    let at = n as usize * RECORD_BYTES + k as usize * FIELD_BYTES;
     byte_at(file, at)
         + byte_at(file, at + 1) * 256
         + byte_at(file, at + 2) * 65536
         + byte_at(file, at + 3) * 16777216
 }
 
+// The region of record n, its fields 1 to 4.
 fn region_at(file: &[u8], n: u32) -> Region
     ensures { λ r. ⌜ r ≡ record-at (now (file .entry)) n .region ⌝ }
 {
@@ -54,7 +66,7 @@ fn region_at(file: &[u8], n: u32) -> Region
     }
 }
 
-// Record n, whether the file has it or not.
+// Record n. Where the file does not have it, its missing bytes count as 0.
 pub fn record_at(file: &[u8], n: u32) -> Record
     ensures { λ r. ⌜ r ≡ record-at (now (file .entry)) n ⌝ }
 {
@@ -69,16 +81,16 @@ pub fn record_at(file: &[u8], n: u32) -> Record
     }
 }
 
-// The number of the chain's first record; 0 where it has none.
+// The number of the chain's first record, or 0 where the chain has no records.
 pub fn first_record(file: &[u8]) -> u32
     ensures { λ r. ⌜ r ≡ first-record (now (file .entry)) ⌝ }
 {
     field(file, 0, 0)
 }
 
-// How many whole records the bytes hold, record 0 included.
+// The number of whole records that the bytes hold, record 0 included.
 pub fn record_count(file: &[u8]) -> usize
     ensures { λ r. ⌜ r ≡ records (now (file .entry)) ⌝ }
 {
-    file.len() / 32
+    file.len() / RECORD_BYTES
 }

@@ -1,5 +1,6 @@
 // The judgement of a whole file.
 use crate::chains::judge_chain;
+use crate::fields::RECORD_BYTES;
 use crate::fields::field;
 use plan::Plan;
 use refusal::Judgement;
@@ -9,17 +10,23 @@ ghost use Prim.Native.Nat.{_+_, _≤_};
 ghost use lib.ListN.{length};
 ghost use Rattle.refusal.specs.Refusal.{of-judgement};
 ghost use Rattle.region_file.specs.Fields.{zeros};
-ghost use Rattle.region_file.specs.Judge.{judge-outcome, most-visits, whole};
+ghost use Rattle.region_file.specs.Judge.{whole, no-further-tests, judge-outcome};
 
-// The largest count of visits that a record may have.
-const MOST_VISITS: u32 = 4096;
+// The bytes of the longest file.
+const MOST_BYTES: usize = 65536;
 
-// Whether so many bytes from a place on are zero.
-fn zeros(file: &[u8], from: usize, count: usize) -> bool
-    requires { ⌜ from + count ≤ length (now file) ⌝ }
-    ensures { λ r. ⌜ r ≡ zeros (now (file .entry)) from count ⌝ }
+// The first reserved byte of record 0. The two fields of record 0 stand before it.
+const RESERVED_START: usize = 8;
+
+// The number of reserved bytes.
+const RESERVED_BYTES: usize = 24;
+
+// Whether `count` bytes are zero, the first of which is byte `start`.
+fn zeros(file: &[u8], start: usize, count: usize) -> bool
+    requires { ⌜ start + count ≤ length (now file) ⌝ }
+    ensures { λ r. ⌜ r ≡ zeros (now (file .entry)) start count ⌝ }
 {
-    let mut at = from;
+    let mut at = start;
     let mut left = count;
     while left > 0 {
         let b = file[at];
@@ -32,22 +39,22 @@ fn zeros(file: &[u8], from: usize, count: usize) -> bool
     true
 }
 
-// Not empty, not too long, and whole records.
+// Whether so many bytes are a whole file: not empty, not longer than the longest file, and whole records.
 fn is_whole(length: usize) -> bool
     ensures { λ r. ⌜ r ≡ whole length ⌝ }
 {
     if length == 0 {
         return false;
     }
-    if 65536 < length {
+    if MOST_BYTES < length {
         return false;
     }
-    length % 32 == 0
+    length % RECORD_BYTES == 0
 }
 
-// With the largest count that a record may have.
-fn judge_to(file: &[u8], limit: u32) -> Judgement
-    ensures { λ r. ⌜ of-judgement r ≡ judge-outcome limit (now (file .entry)) ⌝ }
+// The judgement of any bytes as the listing makes it: 11, 2, 12, then at each link 13, 14, 10, 15.
+pub fn judge(file: &[u8]) -> Judgement
+    ensures { λ r. ⌜ of-judgement r ≡ judge-outcome no-further-tests (now (file .entry)) ⌝ }
 {
     if !is_whole(file.len()) {
         return Judgement::Refused(Refusal::FileLength);
@@ -55,15 +62,8 @@ fn judge_to(file: &[u8], limit: u32) -> Judgement
     if Plan::unknown_level(field(file, 0, 1)) {
         return Judgement::Refused(Refusal::Level);
     }
-    if !zeros(file, 8, 24) {
+    if !zeros(file, RESERVED_START, RESERVED_BYTES) {
         return Judgement::Refused(Refusal::Header);
     }
-    judge_chain(file, limit)
-}
-
-// What the listing accepts: 11, 2, 12, then at each link 13, 14, 10, 15.
-pub fn judge(file: &[u8]) -> Judgement
-    ensures { λ r. ⌜ of-judgement r ≡ judge-outcome most-visits (now (file .entry)) ⌝ }
-{
-    judge_to(file, MOST_VISITS)
+    judge_chain(file)
 }

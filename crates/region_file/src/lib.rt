@@ -3,6 +3,8 @@ mod chains;
 mod fields;
 mod judging;
 
+pub use chains::on_chain;
+pub use fields::MOST_RECORDS;
 pub use fields::Record;
 pub use fields::first_record;
 pub use fields::record_at;

@@ -10,7 +10,7 @@ use Rattle.visits.specs.declared.file_walks.FileVisit.{FileVisit}
 use Rattle.visits.specs.declared.file_walks.FileWalk.{FileWalk}
 use Rattle.visits.specs.declared.file_walks.Step.{Step}
 use Rattle.visits.specs.declared.file_walks.Step.the-variants as step
-use Rattle.visits.specs.FileWalk.{to-come, Gives}
+use Rattle.visits.specs.FileWalk.{visits-to-come, Gives}
 use Rattle.listing.specs.declared.cursors.Cursor.{Cursor}
 use Rattle.listing.specs.Cursor.{ListingPiece}
 use Rattle.vektrid.specs.Words.{walk-of, coming, Opens, others, VisitWords, visit-words, shown}
@@ -41,7 +41,8 @@ behind-walk (a ∷ []) = refl
 behind-walk (a ∷ b ∷ ws) = refl
 
 -- a piece of a listing, between cursors that are the same
-pub piece-same : (file piece : List ℕ) (room : ℕ) {c c' d d' : Cursor} → c ≡ c' → d ≡ d' → ListingPiece file c d piece room → ListingPiece file c' d' piece room
+pub piece-same : (file piece : List ℕ) (room : ℕ) {c c' d d' : Cursor} → c ≡ c' → d ≡ d' → ListingPiece file c d piece room
+    → ListingPiece file c' d' piece room
 piece-same file piece room {c} {c'} {d} {d'} e f h =
     subst (λ (x : Cursor). ListingPiece file c' x piece room) f (subst (λ (x : Cursor). ListingPiece file x d piece room) e h)
 
@@ -61,11 +62,11 @@ module _ (file old new : List ℕ) {p q : FileWalk} (from : p ≡ walk-of old) (
       × (visit-words 0 (held .number) (held .index) (held .x) (held .y) ≡ shown (coming file old) held)
   step-ended e =
       let (none, no-more) = subst (λ (t : Step). Gives file p t q) e gave in
-      let is = sym (ap (to-come file) from) ∙ none in
-      (ap (to-come file) to ∙ no-more ∙ sym (ap others is), sym (ap (λ (vs : List FileVisit). shown vs held) is))
+      let is = sym (ap (visits-to-come file) from) ∙ none in
+      (ap (visits-to-come file) to ∙ no-more ∙ sym (ap others is), sym (ap (λ (vs : List FileVisit). shown vs held) is))
 
   pub step-visited : {v : FileVisit} → s ≡ step.Visited v → (coming file new ≡ others (coming file old))
       × (visit-words 1 (v .number) (v .index) (v .x) (v .y) ≡ shown (coming file old) held)
   step-visited e =
-      let is = sym (ap (to-come file) from) ∙ subst (λ (t : Step). Gives file p t q) e gave in
-      (ap (to-come file) to ∙ sym (ap others is), sym (ap (λ (vs : List FileVisit). shown vs held) is))
+      let is = sym (ap (visits-to-come file) from) ∙ subst (λ (t : Step). Gives file p t q) e gave in
+      (ap (visits-to-come file) to ∙ sym (ap others is), sym (ap (λ (vs : List FileVisit). shown vs held) is))

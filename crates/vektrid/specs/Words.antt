@@ -10,7 +10,7 @@ use Rattle.refusal.specs.Outcome.{Outcome, accepted, refused}
 use Rattle.signed.specs.Words.{cast-signed}
 use Rattle.visits.specs.declared.file_walks.FileVisit.{FileVisit}
 use Rattle.visits.specs.declared.file_walks.FileWalk.{FileWalk}
-use Rattle.visits.specs.FileWalk.{to-come}
+use Rattle.visits.specs.FileWalk.{visits-to-come}
 use Rattle.listing.specs.declared.cursors.Lead.{Lead}
 use Rattle.listing.specs.declared.cursors.Lead.the-variants as lead
 use Rattle.listing.specs.declared.cursors.Cursor.{Cursor}
@@ -41,7 +41,7 @@ cursor-of ws = record { lead = lead-of (getD ws 0 0) (getD ws 1 0); walk = walk-
 
 -- the visits to come from a walk of these words
 abbrev pub coming : List ℕ → List ℕ → List FileVisit
-coming file ws = to-come file (walk-of ws)
+coming file ws = visits-to-come file (walk-of ws)
 
 -- an opened file: all its visits are to come; a refused one leaves the words
 abbrev pub Opens : List ℕ → Outcome (List FileVisit) → List ℕ → List ℕ → Type 0

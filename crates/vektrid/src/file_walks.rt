@@ -9,7 +9,7 @@ use visits::FileWalk;
 use visits::Opened;
 use visits::Step;
 ghost use mathlib.Core.Path.{_≡_};
-ghost use Rattle.region_file.specs.Judge.{judge-outcome, most-visits};
+ghost use Rattle.region_file.specs.Judge.{judge-outcome, no-further-tests};
 ghost use Rattle.visits.specs.Visits.{visits-outcome};
 ghost use Rattle.vektrid.specs.Answers.{answer};
 ghost use Rattle.vektrid.specs.Words.{walk-of, coming, Opens, others, visit-words, shown};
@@ -67,7 +67,7 @@ pub(crate) fn words_of(walk: FileWalk) -> FileWalkWords
 // Whether the listing accepts a file.
 #[no_mangle]
 pub extern "C" fn vektrid_judge(file: &[u8]) -> u32
-    ensures { λ r. ⌜ r ≡ answer (judge-outcome most-visits (now (file .entry))) ⌝ }
+    ensures { λ r. ⌜ r ≡ answer (judge-outcome no-further-tests (now (file .entry))) ⌝ }
 {
     number_of(region_file::judge(file))
 }

@@ -1,3 +1,4 @@
 pub mod Coming
 pub mod Steps
+pub mod FileVisits
 pub mod Theorem

@@ -1,8 +1,8 @@
 -- The visits still to come from a walk, whatever its fields and the file.
-use Prim.Native.Nat.{ℕ, zero, suc, _-_}
 use mathlib.Core.Path.{_≡_}
 use mathlib.Core.Bool.{Bool, cond, not, _&&_}
 use mathlib.Core.List.{List, [], _∷_, _++_}
+use Prim.Native.Nat.{ℕ, zero, suc, _-_}
 use lib.Dec.{eqb, leb}
 use lib.IntN.{pos}
 use Rattle.refusal.specs.Outcome.{Outcome, accepted}
@@ -15,37 +15,38 @@ use Rattle.visits.specs.declared.file_walks.Step.{Step}
 use Rattle.visits.specs.declared.file_walks.Step.the-variants as step
 use Rattle.visits.specs.declared.file_walks.Opened.{Opened}
 use Rattle.visits.specs.declared.file_walks.Opened.the-variants as opened
-use Rattle.visits.specs.Visits.{planned, stretch}
+use Rattle.visits.specs.Visits.{planned, record-visits}
 
--- a number that names a record of the file whose region lies within its limits
+-- n names a record of the file whose region lies within its limits
 unfoldable pub listable : List ℕ → ℕ → Bool
 listable file n = not (eqb n 0) && (not (leb (records file) n) && within (planned file n .region))
 
--- the visits of the chain from the number n on, over at most so many records, up to a number that cannot be listed
-unfoldable pub from : List ℕ → ℕ → ℕ → List FileVisit
-from file zero n = []
-from file (suc links) n =
-    cond (listable file n) (stretch n (planned file n) 0 (planned file n .count) ++ from file links (planned file n .next)) []
+-- the visits of the chain that begins with record n, over at most `links` records, up to a number that is not listable
+unfoldable pub visits-from : List ℕ → ℕ → ℕ → List FileVisit
+visits-from file zero n = []
+visits-from file (suc links) n =
+    cond (listable file n) (record-visits n (planned file n) 0 (planned file n .count) ++ visits-from file links (planned file n .next)) []
 
--- the visits still to come: those left of the place's own record, and then the chain from the next number on
-unfoldable pub to-come : List ℕ → FileWalk → List FileVisit
-to-come file p =
+-- the visits to come from a walk: those left of its record, and then those of the chain that begins with the record's next number.
+-- A walk whose region is outside its limits has none.
+unfoldable pub visits-to-come : List ℕ → FileWalk → List FileVisit
+visits-to-come file p =
     let r = p .planned in
-    cond (within (r .region)) (stretch (p .number) r (p .index) (r .count - p .index) ++ from file (p .links) (r .next)) []
+    cond (within (r .region)) (record-visits (p .number) r (p .index) (r .count - p .index) ++ visits-from file (p .links) (r .next)) []
 
--- what a step gives: the first visit to come and the walk past it, or that none is to come
+-- what a step gives: the first visit to come with the walk after it, or the end where none is to come
 abbrev pub Gives : List ℕ → FileWalk → Step → FileWalk → Type 0
-Gives file p (step.Visited v) q = to-come file p ≡ v ∷ to-come file q
-Gives file p step.Ended q = (to-come file p ≡ []) × (to-come file q ≡ [])
+Gives file p (step.Visited v) q = visits-to-come file p ≡ v ∷ visits-to-come file q
+Gives file p step.Ended q = (visits-to-come file p ≡ []) × (visits-to-come file q ≡ [])
 
--- an opened file by the visits that are to come
-abbrev pub of-opened : List ℕ → Opened → Outcome (List FileVisit)
-of-opened file (opened.Open p) = accepted (to-come file p)
-of-opened file (opened.Refused why) = of-refusal why
+-- what the answer of `open` stands for: the visits to come from the walk, or the refusal
+abbrev pub of-opened-file : List ℕ → Opened → Outcome (List FileVisit)
+of-opened-file file (opened.Open p) = accepted (visits-to-come file p)
+of-opened-file file (opened.Refused why) = of-refusal why
 
--- a walk behind a record without visits, from which the chain goes on at the number `next`
-abbrev pub leading-to : ℕ → ℕ → FileWalk
-leading-to next links = record {
+-- a walk before the record `next`: it holds a record without visits, whose next is `next`
+abbrev pub before-record : ℕ → ℕ → FileWalk
+before-record next links = record {
   number = 0;
   planned = record {
     next = next;
@@ -57,6 +58,6 @@ leading-to next links = record {
   links = links;
 }
 
--- and a walk from which nothing is to come
-abbrev pub ended : FileWalk
-ended = leading-to 0 0
+-- a walk that has ended: no record follows
+abbrev pub ended-walk : FileWalk
+ended-walk = before-record 0 0

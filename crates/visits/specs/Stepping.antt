@@ -1,36 +1,29 @@
--- Inner promises: where the visit at a walk lies, and the next record that has one.
-use Prim.Native.Nat.{ℕ, _+_, _<_}
+-- Inner promises: a step within a record, and the walk at the next record that has a visit.
 use mathlib.Core.Path.{_≡_}
 use mathlib.Core.Bool.{cond, not, _&&_}
+use mathlib.Core.List.{List, []}
 use mathlib.Core.Logic.{_⊎_}
-use mathlib.Core.List.{List, [], _∷_}
+use Prim.Native.Nat.{ℕ, _+_, _<_}
 use lib.Dec.{leb}
-use Rattle.refusal.specs.Outcome.{Outcome, accepted, first}
-use Rattle.stage.specs.declared.regions.Position.{Position}
-use Rattle.stage.specs.Region.{within, outside}
-use Rattle.region_file.specs.declared.fields.Record.{Record}
+use Rattle.stage.specs.Region.{within}
 use Rattle.visits.specs.declared.file_walks.FileWalk.{FileWalk}
 use Rattle.visits.specs.declared.file_walks.Step.the-variants as step
 use Rattle.visits.specs.declared.file_walks.Stepped.{Stepped}
-use Rattle.visits.specs.Visits.{position-of, visit}
-use Rattle.visits.specs.FileWalk.{from, to-come}
+use Rattle.visits.specs.Visits.{file-visit}
+use Rattle.visits.specs.FileWalk.{visits-from, visits-to-come}
 
--- where the visit with index i of a record lies, or 10
-abbrev pub visit-position-outcome : Record → ℕ → Outcome Position
-visit-position-outcome r i = first (outside (r .region) ∷ []) (accepted (position-of r i))
+-- the walk after the visit at its index
+abbrev pub after-visit : FileWalk → FileWalk
+after-visit p = record { number = p .number; planned = p .planned; index = p .index + 1; links = p .links }
 
--- the walk past one visit
-abbrev pub past : FileWalk → FileWalk
-past p = record { number = p .number; planned = p .planned; index = p .index + 1; links = p .links }
-
--- the visit at a walk, if there is one
-unfoldable pub here : FileWalk → Stepped
-here p =
+-- a step that does not leave the walk's record: the visit at its index, or the end where the record has no such visit or no position
+unfoldable pub step-in-record : FileWalk → Stepped
+step-in-record p =
     cond (not (leb (p .planned .count) (p .index)) && within (p .planned .region))
-    (record { step = step.Visited (visit (p .number) (p .planned) (p .index)); walk = past p })
+    (record { step = step.Visited (file-visit (p .number) (p .planned) (p .index)); walk = after-visit p })
     (record { step = step.Ended; walk = p })
 
--- a walk from which the visits of the chain from a number on are to come: it has a visit, or none is to come
-pub record Found (file : List ℕ) (n links : ℕ) (p : FileWalk) : Type 0 where
-  pub same : to-come file p ≡ from file links n
-  pub ready : (p .index < p .planned .count) ⊎ (to-come file p ≡ [])
+-- from the walk p the visits of the chain that begins with record n are to come, and p has a visit at its index unless none is to come
+pub record AtNextVisit (file : List ℕ) (n links : ℕ) (p : FileWalk) : Type 0 where
+  pub same : visits-to-come file p ≡ visits-from file links n
+  pub ready : (p .index < p .planned .count) ⊎ (visits-to-come file p ≡ [])

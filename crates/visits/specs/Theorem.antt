@@ -1,18 +1,24 @@
--- What users rely on: the steps from an opened file give its visits, one after the other, and then the end.
-use Prim.Native.Nat.{ℕ, zero, suc, _≤_}
+-- What users rely on: the steps from an opened file give its visits, one after the other, and then the end; and which visits a file has.
 use mathlib.Core.Path.{_≡_}
+use mathlib.Core.Bool.{true, cond, _&&_}
 use mathlib.Core.List.{List, [], _∷_}
+use mathlib.Core.Logic.{_⊎_, _↔_}
+use Prim.Native.Nat.{ℕ, zero, suc, _<_}
+use lib.Dec.{eqb, ltb}
 use lib.ListN.{length}
-use Rattle.refusal.specs.Outcome.{accepted}
-use Rattle.region_file.specs.Fields.{first-record, most-records}
-use Rattle.region_file.specs.Judge.{judge-outcome, most-visits}
+use Rattle.refusal.specs.Outcome.{accepted, Test}
+use Rattle.region_file.specs.declared.fields.Record.{Record}
+use Rattle.region_file.specs.Chain.{on-chain}
+use Rattle.region_file.specs.Judge.{judge-outcome}
 use Rattle.visits.specs.declared.file_walks.FileVisit.{FileVisit}
 use Rattle.visits.specs.declared.file_walks.FileWalk.{FileWalk}
 use Rattle.visits.specs.declared.file_walks.Step.{Step}
 use Rattle.visits.specs.declared.file_walks.Step.the-variants as step
 use Rattle.visits.specs.declared.file_walks.Opened.the-variants as opened
-use Rattle.visits.specs.Visits.{numbers, visits, visits-outcome}
-use Rattle.visits.specs.FileWalk.{to-come, Gives, of-opened}
+use Rattle.visits.specs.Visits.{planned, visit-position-outcome, file-visit, file-visits, visits-outcome}
+use Rattle.visits.specs.FileWalk.{visits-to-come, Gives, of-opened-file}
+
+-- ---- steps
 
 -- steps one after the other, each from the walk that the one before handed back
 pub data Steps (file : List ℕ) : FileWalk → List Step → FileWalk → Type 0 where
@@ -20,17 +26,41 @@ pub data Steps (file : List ℕ) : FileWalk → List Step → FileWalk → Type 
   more : (p q r : FileWalk) (s : Step) (ss : List Step) → Gives file p s q → Steps file q ss r → Steps file p (s ∷ ss) r
 
 -- what n steps give where these visits are to come: the visits, and the end in every step after them
-unfoldable pub answers : ℕ → List FileVisit → List Step
-answers zero vs = []
-answers (suc n) [] = step.Ended ∷ answers n []
-answers (suc n) (v ∷ vs) = step.Visited v ∷ answers n vs
+unfoldable pub file-answers : ℕ → List FileVisit → List Step
+file-answers zero vs = []
+file-answers (suc n) [] = step.Ended ∷ file-answers n []
+file-answers (suc n) (v ∷ vs) = step.Visited v ∷ file-answers n vs
+
+-- ---- the visits of a file
+
+-- v is one of the list
+abbrev pub Among : FileVisit → List FileVisit → Type 0
+Among v [] = ⊥
+Among v (w ∷ ws) = (v ≡ w) ⊎ Among v ws
+
+-- v is a visit of the file: its record is on the chain, its index is below the record's count, and its position is where the visit of
+-- the record with that index lies
+pub record VisitOf (file : List ℕ) (v : FileVisit) : Type 0 where
+  pub chained : on-chain file (v .number) ≡ true
+  pub counted : v .index < planned file (v .number) .count
+  pub placed : visit-position-outcome (planned file (v .number)) (v .index) ≡ accepted (record { x = v .x; y = v .y })
+
+-- those of a list of visits that have the record number n and the index i
+unfoldable pub visits-at : ℕ → ℕ → List FileVisit → List FileVisit
+visits-at n i [] = []
+visits-at n i (v ∷ vs) = cond (eqb (v .number) n && eqb (v .index) i) (v ∷ visits-at n i vs) (visits-at n i vs)
 
 pub record Theorems : Type 0 where
-  -- the numbers of an accepted file are its whole chain: looking at more links finds no more
-  pub whole-chain : (file : List ℕ) (links : ℕ) → judge-outcome most-visits file ≡ accepted tt → most-records ≤ links
-      → numbers file links (first-record file) ≡ numbers file most-records (first-record file)
-  -- from any walk in any file
-  pub steps : (file : List ℕ) (p q : FileWalk) (ss : List Step) → Steps file p ss q → ss ≡ answers (length ss) (to-come file p)
+  -- from any walk over any file
+  pub steps : (file : List ℕ) (p q : FileWalk) (ss : List Step) → Steps file p ss q → ss ≡ file-answers (length ss) (visits-to-come file p)
   -- ONE claim about the list of steps from the walk that `open` gives
-  pub listed : (file : List ℕ) (p q : FileWalk) (ss : List Step) → of-opened file (opened.Open p) ≡ visits-outcome file → Steps file p ss q
-      → ss ≡ answers (length ss) (visits file)
+  pub listed : (file : List ℕ) (p q : FileWalk) (ss : List Step) → of-opened-file file (opened.Open p) ≡ visits-outcome file
+      → Steps file p ss q → ss ≡ file-answers (length ss) (file-visits file)
+  -- of an accepted file, whatever further tests it passed: a visit is among the file's visits exactly where its record is on the chain, its
+  -- index is below the record's count, and its position is where the visit of the record with that index lies
+  pub visit-iff : (further : Record → List Test) (file : List ℕ) → judge-outcome further file ≡ accepted tt
+      → (v : FileVisit) → Among v (file-visits file) ↔ VisitOf file v
+  -- and no record and index occur twice: once where the record is on the chain and the index below its count, and else never
+  pub once : (further : Record → List Test) (file : List ℕ) → judge-outcome further file ≡ accepted tt
+      → (n i : ℕ) → visits-at n i (file-visits file)
+      ≡ cond (on-chain file n && ltb i (planned file n .count)) (file-visit n (planned file n) i ∷ []) []

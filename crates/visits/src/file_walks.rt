@@ -1,18 +1,18 @@
-// A walk in a file, and the steps from it.
-use crate::chain::found;
-use crate::chain::leading_to;
-use plan::Plan;
+// A walk over the visits of a file, and the steps of it.
+use crate::positions::position_of;
+use crate::records::at_next_visit;
+use crate::records::before_record;
 use refusal::Judgement;
 use refusal::Refusal;
+use region_file::MOST_RECORDS;
 use region_file::Record;
 use stage::Placed;
 ghost use mathlib.Core.Path.{_≡_};
-ghost use Rattle.stage.specs.Region.{of-placed};
 ghost use Rattle.visits.specs.Visits.{visits-outcome};
-ghost use Rattle.visits.specs.FileWalk.{Gives, of-opened, ended};
-ghost use Rattle.visits.specs.Stepping.{visit-position-outcome, here};
+ghost use Rattle.visits.specs.FileWalk.{Gives, of-opened-file, ended-walk};
+ghost use Rattle.visits.specs.Stepping.{step-in-record};
 
-// A visit of a file: the number of its record, its index there, and its position in µm (plan's `FileVisit` has the point).
+// A visit of a file: the number of its record, its index there, and its position in µm. (plan's `Visit` has a point, not a position.)
 pub struct FileVisit {
     pub number: u32,
     pub index: u32,
@@ -20,7 +20,8 @@ pub struct FileVisit {
     pub y: i32,
 }
 
-// A cursor over the visits of a file: the record with its number, the next index in it, and how many records may follow.
+// A cursor over the visits of a file: a record with its number, the index of the next visit in it, and the number of records that may
+// still follow.
 pub struct FileWalk {
     pub number: u32,
     pub planned: Record,
@@ -40,24 +41,15 @@ pub struct Stepped {
     pub walk: FileWalk,
 }
 
-// The walk before the first visit, or the refusal of the file.
+// What opening a file gives: the walk before the first visit, or the refusal of the file.
 pub enum Opened {
     Open(FileWalk),
     Refused(Refusal),
 }
 
-// Where the visit with an index of a record lies, or 10.
-fn position_of(planned: Record, index: u32) -> Placed
-    ensures { λ r. ⌜ of-placed r ≡ visit-position-outcome planned index ⌝ }
-{
-    let region = planned.region;
-    let point = Plan::standard_point(planned.shift, index);
-    region.position(point.x, point.y)
-}
-
-// The visit at a walk, if there is one, with the walk past it.
-fn here(walk: FileWalk) -> Stepped
-    ensures { λ r. ⌜ r ≡ here walk ⌝ }
+// A step that does not leave the walk's record: the visit at its index, or the end where the record has no such visit or no position.
+fn step_in_record(walk: FileWalk) -> Stepped
+    ensures { λ r. ⌜ r ≡ step-in-record walk ⌝ }
 {
     let number = walk.number;
     let planned = walk.planned;
@@ -93,31 +85,34 @@ fn here(walk: FileWalk) -> Stepped
 }
 
 impl FileWalk {
-    // The walk before a file's first visit, or the file's refusal.
+    // The walk before the first visit of a file, or the refusal of the file.
     pub fn open(file: &[u8]) -> Opened
-        ensures { λ r. ⌜ of-opened (now (file .entry)) r ≡ visits-outcome (now (file .entry)) ⌝ }
+        ensures { λ r. ⌜ of-opened-file (now (file .entry)) r ≡ visits-outcome (now (file .entry)) ⌝ }
     {
         let judged = region_file::judge(file);
         match judged {
             Judgement::Refused(why) => Opened::Refused(why),
-            Judgement::Accepted => Opened::Open(leading_to(region_file::first_record(file), 2048)),
+            Judgement::Accepted => {
+                let first = region_file::first_record(file);
+                Opened::Open(before_record(first, MOST_RECORDS))
+            }
         }
     }
 
-    // A walk that has ended, in every file.
+    // A walk that has ended, whatever file it is stepped over.
     pub fn ended() -> FileWalk
-        ensures { λ r. ⌜ r ≡ ended ⌝ }
+        ensures { λ r. ⌜ r ≡ ended-walk ⌝ }
     {
-        leading_to(0, 0)
+        before_record(0, 0)
     }
 
-    // The next visit and the walk past it, whatever the file and the walk.
+    // The next visit and the walk after it, for every file and every walk, also one made by hand or opened over another file.
     pub fn step(self, file: &[u8]) -> Stepped
         ensures { λ r. ⌜ Gives (now (file .entry)) self (r .step) (r .walk) ⌝ }
     {
         let planned = self.planned;
         if self.index < planned.count {
-            return here(self);
+            return step_in_record(self);
         }
         let region = planned.region;
         if !region.within() {
@@ -126,6 +121,6 @@ impl FileWalk {
                 walk: self,
             };
         }
-        here(found(file, planned.next, self.links))
+        step_in_record(at_next_visit(file, planned.next, self.links))
     }
 }

@@ -10,7 +10,7 @@ use denote.Ref.{now}
 use lib.ListN.{length, take, drop}
 use Rattle.visits.specs.declared.file_walks.FileVisit.{FileVisit}
 use Rattle.visits.specs.declared.file_walks.Step.{Step}
-use Rattle.visits.specs.FileWalk.{to-come, Gives}
+use Rattle.visits.specs.FileWalk.{visits-to-come, Gives}
 use Rattle.listing.specs.Listing.{line, lines}
 use Rattle.listing.proofs.Putting.{line-longest, line-some, lines-more, joined, beyond}
 use Rattle.listing.proofs.lines.put_lines.Statement.{statement}
@@ -21,7 +21,7 @@ Inv-loop file out₀ at walk₀ len₀ out walk len =
     (at ≤ len)
     × (len ≤ length out)
     × (length out ≡ length out₀)
-    × (take len out ++ lines (to-come file walk) ≡ take at out₀ ++ lines (to-come file walk₀))
+    × (take len out ++ lines (visits-to-come file walk) ≡ take at out₀ ++ lines (visits-to-come file walk₀))
     × (drop len out ≡ drop len out₀)
 
 abbrev μ-loop : tie.MeasureT-loop
@@ -51,7 +51,7 @@ returns c =
     let l = c .before .before .before .before .before .loop in
     let s = c .before .before .before .step in
     let file = now (a .file) in
-    let g : (to-come file (l .walk) ≡ []) × (to-come file (s .result .walk) ≡ []) = subst
+    let g : (visits-to-come file (l .walk) ≡ []) × (visits-to-come file (s .result .walk) ≡ []) = subst
     (λ (k : Step). Gives file (l .walk) k (s .result .walk)) (c .enum-told .given .1) (s .ensures) in
     record {
       on = l .inv .0;
@@ -92,8 +92,8 @@ loop-again c =
     let v = c .before .before .before .before .before .answer .given .0 .0 in
     let file = now (a .file) in
     let e = u .last .1 .0 in
-    let rest = to-come file (s .result .walk) in
-    let g : to-come file (l .walk) ≡ v ∷ rest = subst (λ (k : Step). Gives file (l .walk) k (s .result .walk))
+    let rest = visits-to-come file (s .result .walk) in
+    let g : visits-to-come file (l .walk) ≡ v ∷ rest = subst (λ (k : Step). Gives file (l .walk) k (s .result .walk))
     (c .before .before .before .before .before .answer .given .1) (s .ensures) in (
       omega (arith, l .inv .0, u .ensures .0),
       omega (

@@ -1,12 +1,12 @@
--- `chains::is_marked` meets its contract.
+-- `chains::is_marked`: past the end of the marks an element reads as 0.
 -- Assumes nothing.
 use mathlib.Core.Path.{sym, ap}
 use mathlib.Core.Bool.{not}
 use Prim.Native.Nat.{ℕ}
+use borrow.Author.Needs.{needs}
 use denote.Ref.{now}
 use lib.Dec.{eqb}
 use lib.ListN.{List·getD-eq-default}
-use borrow.Author.Needs.{needs}
 use Rattle.region_file.proofs.chains.is_marked.Statement.{statement}
 use Rattle.region_file.proofs.chains.is_marked.Tie as tie
 

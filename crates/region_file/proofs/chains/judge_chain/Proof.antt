@@ -1,42 +1,43 @@
--- `chains::judge_chain` meets its contract: the chain still to be judged, of as many links as records are free, decides.
+-- `chains::judge_chain`. The loop's invariant: the chain from n on, with as many links as records are free and the marked ones as visited,
+-- is judged as the whole chain. The measure is the number of free records.
 -- Assumes nothing.
 use mathlib.Core.Path.{_≡_, sym, ap, ap₂, _∙_}
 use mathlib.Core.Bool.{Bool}
 use mathlib.Core.List.{List}
 use Prim.Native.Nat.{ℕ, _<_, _≤_, _^_}
 use native.Mathlib.Omega.{arith}
+use borrow.Author.Needs.{needs}
 use denote.Ref.{now}
 use lib.ListN.{length, getD, set, length-set, length-replicate}
 use lib.Seq.{getD-set-other}
-use borrow.Author.Needs.{needs}
 use Rattle.refusal.specs.Outcome.{accepted}
 use Rattle.refusal.specs.Refusal.{of-judgement}
 use Rattle.region_file.specs.declared.fields.Record.{Record}
 use Rattle.region_file.specs.Fields.{first-record, records, most-records}
-use Rattle.region_file.specs.Judge.{link-outcome, nowhere, chain}
+use Rattle.region_file.specs.Judge.{no-further-tests, link-outcome, nowhere, chain}
 use Rattle.region_file.proofs.Marks.{marked, free, free-fresh, fresh-at, marked-fresh, free-set, free-some, marked-set, unmarked}
 use Rattle.region_file.proofs.Chain.{passed, chain-end, chain-refused, chain-next}
 use Rattle.region_file.proofs.chains.judge_chain.Statement.{statement}
 use Rattle.region_file.proofs.chains.judge_chain.Tie as tie
 
 abbrev Inv-loop : tie.InvT-loop
-Inv-loop file limit marks₀ n₀ marks n =
+Inv-loop file marks₀ n₀ marks n =
     (length marks ≡ most-records) × (getD marks 0 0 ≡ 0) × (n < 2 ^ 32)
-    × (chain limit file (free marks) (marked marks) n ≡ chain limit file most-records nowhere (first-record file))
+    × (chain no-further-tests file (free marks) (marked marks) n ≡ chain no-further-tests file most-records nowhere (first-record file))
 
 abbrev μ-loop : tie.MeasureT-loop
-μ-loop file limit marks₀ n₀ marks n = free marks
+μ-loop file marks₀ n₀ marks n = free marks
 
 -- a link that passes names an unmarked record of the file
-record Taken (limit : ℕ) (file ms : List ℕ) (n : ℕ) : Type 0 where
-  pub passes : link-outcome limit file (marked ms n) n ≡ accepted tt
+record Taken (file ms : List ℕ) (n : ℕ) : Type 0 where
+  pub passes : link-outcome no-further-tests file (marked ms n) n ≡ accepted tt
   pub here : n < length ms
   pub clear : getD ms n 0 ≡ 0
 
-taken : (limit : ℕ) (file ms : List ℕ) (n : ℕ) → records file ≤ most-records → length ms ≡ most-records
-    → link-outcome limit file (marked ms n) n ≡ accepted tt → Taken limit file ms n
-taken limit file ms n few l h =
-    let p = passed limit file (marked ms n) n h .0 in
+taken : (file ms : List ℕ) (n : ℕ) → records file ≤ most-records → length ms ≡ most-records
+    → link-outcome no-further-tests file (marked ms n) n ≡ accepted tt → Taken file ms n
+taken file ms n few l h =
+    let p = passed no-further-tests file (marked ms n) n h .0 in
     let o = p .here in
     record { passes = h; here = omega (arith, o); clear = unmarked ms n (p .fresh) }
 
@@ -46,11 +47,12 @@ first-record-requires c κs = search needs
 loop-holds : tie.Need-loop-holds Inv-loop μ-loop
 loop-holds c =
     let a = c .before .before .args in (
-      length-replicate {A = ℕ} 2048 0,
-      fresh-at 2048 0,
+      length-replicate {A = ℕ} most-records 0,
+      fresh-at most-records 0,
       search needs,
-      ap₂ (λ (f : ℕ) (m : ℕ → Bool). chain (a .limit) (now (a .file)) f m (c .first-record .result)) (free-fresh 2048) (marked-fresh 2048)
-          ∙ ap (chain (a .limit) (now (a .file)) most-records nowhere) (c .first-record .ensures),
+      ap₂ (λ (f : ℕ) (m : ℕ → Bool). chain no-further-tests (now (a .file)) f m (c .first-record .result))
+          (free-fresh most-records) (marked-fresh most-records)
+          ∙ ap (chain no-further-tests (now (a .file)) most-records nowhere) (c .first-record .ensures),
     )
 
 cast-at : tie.Need-cast-at Inv-loop μ-loop
@@ -69,38 +71,38 @@ enum-known-judged : tie.Need-enum-known-judged Inv-loop μ-loop
 enum-known-judged c = search needs
 
 -- what the tests of the link come to, by the marks
-told : (c : tie.After-judge-link Inv-loop μ-loop)
-    → link-outcome (c .before .before .before .before .before .before .before .args .limit)
+link-judged : (c : tie.After-judge-link Inv-loop μ-loop)
+    → link-outcome no-further-tests
     (now (c .before .before .before .before .before .before .before .args .file))
     (marked (c .before .before .before .before .loop .marks) (c .before .before .before .before .loop .n))
     (c .before .before .before .before .loop .n)
     ≡ of-judgement (c .judge-link .result)
 unfolding marked
-told c =
+link-judged c =
     let a = c .before .before .before .before .before .before .before .args in
-    sym (c .judge-link .ensures ∙ ap (λ (x : Bool). link-outcome (a .limit) (now (a .file)) x (c .before .before .before .before .loop .n))
+    sym (c .judge-link .ensures ∙ ap (λ (x : Bool). link-outcome no-further-tests (now (a .file)) x (c .before .before .before .before .loop .n))
     (c .before .is-marked .ensures))
 
 returns : tie.Need-returns Inv-loop μ-loop
 returns c =
     let a = c .before .before .before .before .before .before .before .before .before .before .args in
     let i = c .before .before .before .before .before .before .before .loop in
-    sym (chain-refused (a .limit) (now (a .file)) (marked (i .marks)) (i .n) (c .before .before .before .before .before .before .loop-test .taken)
+    sym (chain-refused no-further-tests (now (a .file)) (marked (i .marks)) (i .n)
+    (c .before .before .before .before .before .before .loop-test .taken)
     (free (i .marks))
-    (free-some (i .marks) (i .inv .0) (i .inv .1)) (told (c .before .before .before) ∙ ap of-judgement (c .before .judged .given .1)))
+    (free-some (i .marks) (i .inv .0) (i .inv .1)) (link-judged (c .before .before .before) ∙ ap of-judgement (c .before .judged .given .1)))
     ∙ i .inv .3
 
 enum-told : tie.Need-enum-told Inv-loop μ-loop
 enum-told c = search needs
 
-took : (c : tie.After-enum-told Inv-loop μ-loop) → Taken (c .before .before .before .before .before .before .before .before .before .args .limit)
-    (now (c .before .before .before .before .before .before .before .before .before .args .file))
+took : (c : tie.After-enum-told Inv-loop μ-loop) → Taken (now (c .before .before .before .before .before .before .before .before .before .args .file))
     (c .before .before .before .before .before .before .loop .marks) (c .before .before .before .before .before .before .loop .n)
 took c =
     let a = c .before .before .before .before .before .before .before .before .before .args in
     let i = c .before .before .before .before .before .before .loop in
-    taken (a .limit) (now (a .file)) (i .marks) (i .n) (c .before .before .before .before .before .before .before .before .before .pre) (i .inv .0)
-    (told (c .before .before) ∙ ap of-judgement (c .enum-told .given .1))
+    taken (now (a .file)) (i .marks) (i .n) (c .before .before .before .before .before .before .before .before .before .pre) (i .inv .0)
+    (link-judged (c .before .before) ∙ ap of-judgement (c .enum-told .given .1))
 
 array-write-marks : tie.Need-array-write-marks Inv-loop μ-loop
 array-write-marks c = let t = took c in omega (arith, t .here)
@@ -126,10 +128,10 @@ loop-again c =
       length-set (i .marks) (i .n) 1 ∙ i .inv .0,
       getD-set-other (i .marks) (i .n) 0 1 0 q ∙ i .inv .1,
       search needs,
-      ap₂ (λ (m : ℕ → Bool) (k : ℕ). chain (a .limit) (now (a .file)) (free left) m k) (marked-set (i .marks) (i .n) (t .here))
+      ap₂ (λ (m : ℕ → Bool) (k : ℕ). chain no-further-tests (now (a .file)) (free left) m k) (marked-set (i .marks) (i .n) (t .here))
           (ap (λ (x : Record). x .next) (c .record-at .ensures))
-          ∙ sym (chain-next (a .limit) (now (a .file)) v (i .n) ne (free left) (t .passes))
-          ∙ ap (λ (f : ℕ). chain (a .limit) (now (a .file)) f v (i .n)) (sym (free-set (i .marks) (i .n) (t .here) (t .clear)))
+          ∙ sym (chain-next no-further-tests (now (a .file)) v (i .n) ne (free left) (t .passes))
+          ∙ ap (λ (f : ℕ). chain no-further-tests (now (a .file)) f v (i .n)) (sym (free-set (i .marks) (i .n) (t .here) (t .clear)))
           ∙ i .inv .3,
     )
 
@@ -137,7 +139,7 @@ returns-2 : tie.Need-returns-2 Inv-loop μ-loop
 returns-2 c =
     let a = c .before .before .before .before .args in
     let i = c .before .loop in
-    sym (chain-end (a .limit) (now (a .file)) (free (i .marks)) (free-some (i .marks) (i .inv .0) (i .inv .1)) (marked (i .marks)) (i .n)
+    sym (chain-end no-further-tests (now (a .file)) (free (i .marks)) (free-some (i .marks) (i .inv .0) (i .inv .1)) (marked (i .marks)) (i .n)
     (c .loop-test .left)) ∙ i .inv .3
 
 pub judge-chain-spec : {M : Type 1} → statement M

@@ -1,19 +1,15 @@
--- `chains::judge_link` meets its contract: the tests in order, each with its own return.
+-- `chains::judge_link`: 13 and 14 have their own returns; after them the tests of the record decide.
 -- Assumes nothing.
 use mathlib.Core.Path.{_≡_, sym, ap, _∙_, subst}
-use mathlib.Core.Bool.{false, not}
-use mathlib.Core.List.{[], _∷_}
+use mathlib.Core.Bool.{false}
 use Prim.Native.Nat.{ℕ, _≤_, _<_}
+use borrow.Author.Needs.{needs}
+use borrow.Author.Tests.{le-leb, lt-leb}
 use denote.Ref.{now}
 use lib.Dec.{leb}
-use borrow.Author.Tests.{le-leb, lt-leb, lt-ltb, le-ltb}
-use Rattle.refusal.specs.Outcome.{accepted, first}
-use Rattle.refusal.proofs.First.{first-none, first-refuses, first-passes}
-use Rattle.stage.specs.Region.{within}
-use Rattle.region_file.specs.declared.fields.Record.{Record}
-use Rattle.region_file.specs.Fields.{record-at, records}
-use Rattle.region_file.specs.Judge.{link-outcome, too-many}
-use borrow.Author.Needs.{needs}
+use Rattle.refusal.proofs.First.{first-refuses, first-passes}
+use Rattle.region_file.specs.Fields.{records}
+use Rattle.region_file.specs.Judge.{no-further-tests, record-outcome}
 use Rattle.region_file.proofs.chains.judge_link.Statement.{statement}
 use Rattle.region_file.proofs.chains.judge_link.Tie as tie
 
@@ -33,36 +29,14 @@ returns-2 c = sym (first-passes _ 13 _ (here (c .before)) ∙ first-refuses _ 14
 record-at-requires : tie.Need-record-at-requires
 record-at-requires c κs = search needs
 
-within-requires : tie.Need-within-requires
-within-requires c κs = search needs
-
-region : (c : tie.After-within) → c .within .result ≡ within
-    (record-at (now (c .before .before .before .before .before .before .before .args .file))
-    (c .before .before .before .before .before .before .before .args .n) .region)
-region c = c .within .ensures ∙ ap (λ (r : Record). within (r .region)) (c .before .before .record-at .ensures)
+judge-record-requires : tie.Need-judge-record-requires
+judge-record-requires c κs = search needs
 
 returns-3 : tie.Need-returns-3
-returns-3 c = sym (first-passes _ 13 _ (here (c .before .before .before .before .before)) ∙ first-passes _ 14 _
-    (c .before .before .before .before .if2 .left) ∙ first-refuses _ 10 _ (sym (ap not (region (c .before))) ∙ c .if3 .taken))
-
--- the first three tests have passed
-before : (c : tie.Else3) → let a = c .before .before .before .before .before .before .before .before .args in
-    link-outcome (a .limit) (now (a .file)) (a .seen) (a .n) ≡ first (too-many (a .limit) (record-at (now (a .file)) (a .n)) ∷ []) (accepted tt)
-before c = first-passes _ 13 _ (here (c .before .before .before .before .before)) ∙ first-passes _ 14 _
-    (c .before .before .before .before .if2 .left) ∙ first-passes _ 10 _ (sym (ap not (region (c .before))) ∙ c .if3 .left)
-
-returns-4 : tie.Need-returns-4
-returns-4 c =
-    let a = c .before .before .before .before .before .before .before .before .before .before .args in
-    sym (before (c .before .before) ∙ first-refuses _ 15 _
-    (lt-ltb _ _ (subst (λ (r : Record). a .limit < r .count) (c .before .before .before .before .before .record-at .ensures) (c .if4 .taken))))
-
-returns-5 : tie.Need-returns-5
-returns-5 c =
-    let a = c .before .before .before .before .before .before .before .before .before .before .args in
-    sym (before (c .before .before) ∙ first-passes _ 15 _
-    (le-ltb _ _ (subst (λ (r : Record). r .count ≤ a .limit) (c .before .before .before .before .before .record-at .ensures) (c .if4 .left)))
-    ∙ first-none _)
+returns-3 c =
+    c .judge-record .ensures
+    ∙ ap (record-outcome no-further-tests) (c .before .record-at .ensures)
+    ∙ sym (first-passes _ 13 _ (here (c .before .before .before)) ∙ first-passes _ 14 _ (c .before .before .if2 .left))
 
 pub judge-link-spec : {M : Type 1} → statement M
 judge-link-spec =
@@ -72,7 +46,5 @@ judge-link-spec =
     returns
     returns-2
     record-at-requires
-    within-requires
-    returns-3
-    returns-4
-    returns-5)
+    judge-record-requires
+    returns-3)

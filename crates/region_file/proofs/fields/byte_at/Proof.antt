@@ -1,10 +1,10 @@
--- `fields::byte_at` meets its contract.
+-- `fields::byte_at`: past the end of the file an element reads as 0.
 -- Assumes nothing.
 use mathlib.Core.Path.{sym}
+use borrow.Author.Needs.{needs}
 use denote.Ref.{now}
 use lib.Dec.{lit<}
 use lib.ListN.{List·getD-eq-default}
-use borrow.Author.Needs.{needs}
 use Rattle.region_file.proofs.fields.byte_at.Statement.{statement}
 use Rattle.region_file.proofs.fields.byte_at.Tie as tie
 

@@ -1,7 +1,7 @@
--- `fields::field` meets its contract.
+-- `fields::field`: no sum wraps, since each byte is below 256.
 -- Assumes nothing.
-use Rattle.region_file.specs.Fields.{word-at}
 use borrow.Author.Needs.{needs}
+use Rattle.region_file.specs.Fields.{word-at}
 use Rattle.region_file.proofs.fields.field.Statement.{statement}
 use Rattle.region_file.proofs.fields.field.Tie as tie
 

@@ -1,4 +1,4 @@
--- `fields::first_record` meets its contract.
+-- `fields::first_record`: field 0 of record 0.
 -- Assumes nothing.
 use borrow.Author.Needs.{needs}
 use Rattle.region_file.proofs.fields.first_record.Statement.{statement}

@@ -1,11 +1,11 @@
--- `fields::record_at` meets its contract.
+-- `fields::record_at`: a record is the same where its fields are.
 -- Assumes nothing.
 use mathlib.Core.Path.{_≡_, ap, ap₂, _∙_}
 use Prim.Native.Nat.{ℕ}
+use borrow.Author.Needs.{needs}
 use Rattle.stage.specs.declared.regions.Region.{Region}
 use Rattle.region_file.specs.declared.fields.Record.{Record}
 use Rattle.region_file.specs.Fields.{record-at}
-use borrow.Author.Needs.{needs}
 use Rattle.region_file.proofs.fields.record_at.Statement.{statement}
 use Rattle.region_file.proofs.fields.record_at.Tie as tie
 

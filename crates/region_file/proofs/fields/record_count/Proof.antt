@@ -1,4 +1,4 @@
--- `fields::record_count` meets its contract.
+-- `fields::record_count`: the definition itself.
 -- Assumes nothing.
 use mathlib.Core.Path.{refl}
 use Rattle.region_file.proofs.fields.record_count.Statement.{statement}

@@ -1,14 +1,14 @@
--- `fields::region_at` meets its contract.
+-- `fields::region_at`: a region is the same where its four fields are; left and top go through two's complement and back.
 -- Assumes nothing.
 use mathlib.Core.Path.{_≡_, ap, ap₂, _∙_}
 use Prim.Native.Nat.{ℕ}
+use borrow.Author.Needs.{needs}
 use lib.IntN.{ℤ}
 use mir.Syntax.{w32}
 use mir.ValLaws.{toZ-ofZ}
 use Rattle.signed.specs.Words.{cast-signed}
 use Rattle.stage.specs.declared.regions.Region.{Region}
 use Rattle.region_file.specs.Fields.{record-at}
-use borrow.Author.Needs.{needs}
 use Rattle.region_file.proofs.fields.region_at.Statement.{statement}
 use Rattle.region_file.proofs.fields.region_at.Tie as tie
 

@@ -1,4 +1,4 @@
--- `judging::is_whole` meets its contract.
+-- `judging::is_whole`: each return is a case of the definition `whole`.
 -- Assumes nothing.
 use mathlib.Core.Path.{sym}
 use borrow.Author.Tests.{eq-eqb, ne-eqb, lt-ltb, le-ltb}

@@ -1,10 +1,10 @@
--- `judging::zeros` meets its contract: what is left to look at is zero exactly when all is.
+-- `judging::zeros`. The loop's invariant: the bytes still to be looked at are all zero exactly when all of them are.
 -- Assumes nothing.
-use denote.Ref.{now}
 use mathlib.Core.Path.{_≡_, sym, _∙_}
 use Prim.Native.Nat.{_+_, _≤_}
 use native.Mathlib.Omega.{arith}
 use borrow.Author.Needs.{needs}
+use denote.Ref.{now}
 use lib.ListN.{length}
 use Rattle.region_file.specs.Fields.{zeros}
 use Rattle.region_file.proofs.Zeros.{zeros-none, zeros-more, zeros-not}
@@ -12,10 +12,10 @@ use Rattle.region_file.proofs.judging.zeros.Statement.{statement}
 use Rattle.region_file.proofs.judging.zeros.Tie as tie
 
 abbrev Inv-loop : tie.InvT-loop
-Inv-loop file from count at₀ left₀ at left = (at + left ≤ length file) × (zeros file at left ≡ zeros file from count)
+Inv-loop file start count at₀ left₀ at left = (at + left ≤ length file) × (zeros file at left ≡ zeros file start count)
 
 abbrev μ-loop : tie.MeasureT-loop
-μ-loop file from count at₀ left₀ at left = left
+μ-loop file start count at₀ left₀ at left = left
 
 loop-holds : tie.Need-loop-holds Inv-loop μ-loop
 loop-holds c = search needs

@@ -2,7 +2,7 @@
 -- Assumes nothing.
 use mathlib.Core.Path.{refl, sym, ap, _∙_}
 use denote.Ref.{now}
-use Rattle.visits.specs.FileWalk.{to-come, of-opened}
+use Rattle.visits.specs.FileWalk.{visits-to-come, of-opened-file}
 use Rattle.vektrid.proofs.Outcomes.{refused-answer, accepted-answer}
 use Rattle.vektrid.proofs.Words.{opened, unopened}
 use borrow.Author.Needs.{needs}
@@ -28,15 +28,15 @@ returns : tie.Need-returns
 returns c =
     let d = c .before .before .before .before in
     let file = now (d .before .before .args .file) in
-    let e = sym (d .«open» .ensures) ∙ ap (of-opened file) (c .before .before .opened .given .1) in
+    let e = sym (d .«open» .ensures) ∙ ap (of-opened-file file) (c .before .before .opened .given .1) in
     (c .number .ensures ∙ refused-answer e, unopened file _ _ e refl)
 
 returns-2 : tie.Need-returns-2
 returns-2 c =
     let d = c .before .before .before .before in
     let file = now (d .before .before .args .file) in
-    let e = sym (d .«open» .ensures) ∙ ap (of-opened file) (c .before .before .opened2 .given .1) in
-    (accepted-answer e, opened file _ _ e (ap (to-come file) (c .words-of .ensures)))
+    let e = sym (d .«open» .ensures) ∙ ap (of-opened-file file) (c .before .before .opened2 .given .1) in
+    (accepted-answer e, opened file _ _ e (ap (visits-to-come file) (c .words-of .ensures)))
 
 pub vektrid-file-walk-open-spec : {M : Type 1} → statement M
 vektrid-file-walk-open-spec =

@@ -6,8 +6,7 @@ use Prim.Native.Nat.{ℕ}
 use denote.Ref.{now}
 use Rattle.refusal.specs.Refusal.{number}
 use Rattle.visits.specs.declared.file_walks.FileVisit.{FileVisit}
-use Rattle.visits.specs.FileWalk.{of-opened}
-use Rattle.visits.specs.FileWalk.{to-come as visits-to-come}
+use Rattle.visits.specs.FileWalk.{visits-to-come, of-opened-file}
 use Rattle.visits.proofs.Coming.{ended-comes}
 use Rattle.listing.specs.Listing.{refused-text, lines, report, listing}
 use Rattle.listing.specs.Cursor.{to-come}
@@ -35,7 +34,7 @@ returns : tie.Need-returns
 unfolding to-come listing
 returns c =
     let file = now (c .before .before .before .before .before .args .file) in
-    ap report (sym (ap (of-opened file) (c .before .opened .given .1)) ∙ c .before .before .before .«open» .ensures)
+    ap report (sym (ap (of-opened-file file) (c .before .opened .given .1)) ∙ c .before .before .before .«open» .ensures)
 
 returns-2 : tie.Need-returns-2
 unfolding to-come listing
@@ -46,7 +45,7 @@ returns-2 c =
     (ap (visits-to-come file) (c .ended .ensures) ∙ ended-comes file)
     ∙ ap (λ (t : List ℕ). refused-text (number why) ++ t) lines-none
     ∙ append-nil (refused-text (number why))
-    ∙ ap report (sym (ap (of-opened file) (c .before .before .before .opened2 .given .1))
+    ∙ ap report (sym (ap (of-opened-file file) (c .before .before .before .opened2 .given .1))
     ∙ c .before .before .before .before .before .«open» .ensures)
 
 pub open-spec : {M : Type 1} → statement M

@@ -8,7 +8,7 @@ use native.Mathlib.Omega.{arith}
 use denote.Ref.{now}
 use lib.ListN.{length, take, drop}
 use lib.Seq.{length-take-le, drop-drop}
-use Rattle.visits.specs.FileWalk.{to-come as visits-to-come}
+use Rattle.visits.specs.FileWalk.{visits-to-come}
 use Rattle.listing.specs.Listing.{lines}
 use Rattle.listing.specs.Cursor.{lead-text, to-come, ListingPiece}
 use Rattle.listing.proofs.Putting.{lead-longest, lines-none, joined, beyond}

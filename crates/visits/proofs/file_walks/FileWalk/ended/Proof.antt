@@ -1,14 +1,14 @@
--- `FileWalk::ended` meets its contract.
+-- `FileWalk::ended`: the walk before record 0, with no links.
 -- Assumes nothing.
 use borrow.Author.Needs.{needs}
 use Rattle.visits.proofs.file_walks.FileWalk.ended.Statement.{statement}
 use Rattle.visits.proofs.file_walks.FileWalk.ended.Tie as tie
 
-leading-to-requires : tie.Need-leading-to-requires
-leading-to-requires c κs = search needs
+before-record-requires : tie.Need-before-record-requires
+before-record-requires c κs = search needs
 
 returns : tie.Need-returns
-returns c = c .leading-to .ensures
+returns c = c .before-record .ensures
 
 pub ended-spec : {M : Type 1} → statement M
-ended-spec = tie.close (tie.spec leading-to-requires returns)
+ended-spec = tie.close (tie.spec before-record-requires returns)

@@ -1,27 +1,27 @@
--- `FileWalk::step` meets its contract.
+-- `FileWalk::step`: where the record has a visit left the step stays in it; else as much is to come from the walk at the next visit.
 -- Assumes nothing.
 use mathlib.Core.Path.{sym, _∙_, subst}
 use mathlib.Core.Logic.{inl}
-use denote.Ref.{now}
 use borrow.Author.Tests.{not-true, not-false}
+use borrow.Author.Needs.{needs}
+use denote.Ref.{now}
 use Rattle.visits.specs.declared.file_walks.Stepped.{Stepped}
 use Rattle.visits.specs.FileWalk.{Gives}
-use Rattle.visits.specs.Stepping.{here}
+use Rattle.visits.specs.Stepping.{step-in-record}
 use Rattle.visits.proofs.Coming.{to-come-outside, to-come-next}
-use Rattle.visits.proofs.Steps.{gives-here, gives-same}
-use borrow.Author.Needs.{needs}
+use Rattle.visits.proofs.Steps.{gives-in-record, gives-same}
 use Rattle.visits.proofs.file_walks.FileWalk.step.Statement.{statement}
 use Rattle.visits.proofs.file_walks.FileWalk.step.Tie as tie
 
-here-requires : tie.Need-here-requires
-here-requires c κs = search needs
+step-in-record-requires : tie.Need-step-in-record-requires
+step-in-record-requires c κs = search needs
 
 returns : tie.Need-returns
 returns c =
     let a = c .before .before .before .before .before .before .args in
     let file = now (a .file) in
-    subst (λ (s : Stepped). Gives file (a .self) (s .step) (s .walk)) (sym (c .here .ensures))
-    (gives-here file (a .self) (inl (c .before .if1 .taken)))
+    subst (λ (s : Stepped). Gives file (a .self) (s .step) (s .walk)) (sym (c .step-in-record .ensures))
+    (gives-in-record file (a .self) (inl (c .before .if1 .taken)))
 
 within-requires : tie.Need-within-requires
 within-requires c κs = search needs
@@ -32,31 +32,31 @@ returns-2 c =
     let e = to-come-outside (now (a .file)) (a .self) (sym (c .before .within .ensures) ∙ not-true _ (c .if2 .taken)) in
     (e, e)
 
-found-requires : tie.Need-found-requires
-found-requires c κs = search needs
+at-next-visit-requires : tie.Need-at-next-visit-requires
+at-next-visit-requires c κs = search needs
 
-here-requires-2 : tie.Need-here-requires-2
-here-requires-2 c κs = search needs
+step-in-record-requires-2 : tie.Need-step-in-record-requires-2
+step-in-record-requires-2 c κs = search needs
 
 returns-3 : tie.Need-returns-3
 returns-3 c =
     let a = c .before .before .before .before .before .before .before .before .before .before .args in
     let file = now (a .file) in
-    let found = c .before .found in
+    let at = c .before .at-next-visit in
     let next = to-come-next file (a .self) (sym (c .before .before .before .within .ensures) ∙ not-false _ (c .before .before .if2 .left))
     (c .before .before .before .before .before .if1 .left) in
-    subst (λ (s : Stepped). Gives file (a .self) (s .step) (s .walk)) (sym (c .here2 .ensures))
-    (gives-same file (a .self) (found .result) (here (found .result) .walk) (here (found .result) .step) (next ∙ sym (found .ensures .same))
-    (gives-here file (found .result) (found .ensures .ready)))
+    subst (λ (s : Stepped). Gives file (a .self) (s .step) (s .walk)) (sym (c .step-in-record2 .ensures))
+    (gives-same file (a .self) (at .result) (step-in-record (at .result) .walk) (step-in-record (at .result) .step) (next ∙ sym (at .ensures .same))
+    (gives-in-record file (at .result) (at .ensures .ready)))
 
 pub step-spec : {M : Type 1} → statement M
 step-spec =
     tie.close
     (tie.spec
-    here-requires
+    step-in-record-requires
     returns
     within-requires
     returns-2
-    found-requires
-    here-requires-2
+    at-next-visit-requires
+    step-in-record-requires-2
     returns-3)

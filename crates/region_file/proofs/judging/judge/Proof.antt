@@ -1,21 +1,21 @@
--- `judging::judge_to` meets its contract: the tests in order, each with its own return.
+-- `judging::judge`: at each return the tests before it have passed, so the list of tests begins with the one that decides.
 -- Assumes nothing.
 use mathlib.Core.Path.{_≡_, sym, ap, _∙_}
 use mathlib.Core.Bool.{true, false, not}
 use Prim.Native.Nat.{ℕ}
 use native.Mathlib.Omega.{arith}
+use borrow.Author.Tests.{not-false}
+use borrow.Author.Needs.{needs}
 use denote.Ref.{now}
 use lib.ListN.{length}
-use borrow.Author.Tests.{not-false}
 use Rattle.refusal.proofs.First.{first-none, first-refuses, first-passes}
 use Rattle.plan.specs.Pair.{unknown-level}
-use Rattle.region_file.specs.Fields.{level}
+use Rattle.region_file.specs.Fields.{file-level}
 use Rattle.region_file.specs.Judge.{judge-outcome}
 use Rattle.region_file.specs.Judge.{whole as is-whole}
 use Rattle.region_file.proofs.Chain.{Whole, whole-has, whole-few}
-use borrow.Author.Needs.{needs}
-use Rattle.region_file.proofs.judging.judge_to.Statement.{statement}
-use Rattle.region_file.proofs.judging.judge_to.Tie as tie
+use Rattle.region_file.proofs.judging.judge.Statement.{statement}
+use Rattle.region_file.proofs.judging.judge.Tie as tie
 
 is-whole-requires : tie.Need-is-whole-requires
 is-whole-requires c κs = search needs
@@ -30,45 +30,45 @@ field-requires c κs = search needs
 unknown-level-requires : tie.Need-unknown-level-requires
 unknown-level-requires c κs = search needs
 
-told : (c : tie.Else1) → is-whole (length (now (c .before .before .before .args .file))) ≡ true
-told c = sym (c .before .is-whole .ensures) ∙ not-false _ (c .if1 .left)
+is-whole-file : (c : tie.Else1) → is-whole (length (now (c .before .before .before .args .file))) ≡ true
+is-whole-file c = sym (c .before .is-whole .ensures) ∙ not-false _ (c .if1 .left)
 
 whole : (c : tie.Else1) → Whole (length (now (c .before .before .before .args .file)))
-whole c = whole-has _ (told c)
+whole c = whole-has _ (is-whole-file c)
 
-size : (c : tie.Else1) → not (is-whole (length (now (c .before .before .before .args .file)))) ≡ false
-size c = ap not (told c)
+whole-passes : (c : tie.Else1) → not (is-whole (length (now (c .before .before .before .args .file)))) ≡ false
+whole-passes c = ap not (is-whole-file c)
 
-level-told : (c : tie.After-unknown-level) → unknown-level (level (now (c .before .before .before .before .before .args .file)))
+level-test : (c : tie.After-unknown-level) → unknown-level (file-level (now (c .before .before .before .before .before .args .file)))
     .holds ≡ c .unknown-level .result
-level-told c = sym (c .unknown-level .ensures ∙ ap (λ (k : ℕ). unknown-level k .holds) (c .before .field .ensures))
+level-test c = sym (c .unknown-level .ensures ∙ ap (λ (k : ℕ). unknown-level k .holds) (c .before .field .ensures))
 
 returns-2 : tie.Need-returns-2
 unfolding judge-outcome
-returns-2 c = sym (first-passes _ 11 _ (size (c .before .before .before)) ∙ first-refuses _ 2 _ (level-told (c .before) ∙ c .if2 .taken))
+returns-2 c = sym (first-passes _ 11 _ (whole-passes (c .before .before .before)) ∙ first-refuses _ 2 _ (level-test (c .before) ∙ c .if2 .taken))
 
 zeros-requires : tie.Need-zeros-requires
 zeros-requires c κs = let w = whole (c .before .before .before) in omega (arith, w .some, w .even)
 
 returns-3 : tie.Need-returns-3
 unfolding judge-outcome
-returns-3 c = sym (first-passes _ 11 _ (size (c .before .before .before .before .before)) ∙ first-passes _ 2 _
-    (level-told (c .before .before .before) ∙ c .before .before .if2 .left) ∙ first-refuses _ 12 _
+returns-3 c = sym (first-passes _ 11 _ (whole-passes (c .before .before .before .before .before)) ∙ first-passes _ 2 _
+    (level-test (c .before .before .before) ∙ c .before .before .if2 .left) ∙ first-refuses _ 12 _
     (sym (ap not (c .before .zeros .ensures)) ∙ c .if3 .taken))
 
 judge-chain-requires : tie.Need-judge-chain-requires
-judge-chain-requires c κs = whole-few _ (told (c .before .before .before .before .before))
+judge-chain-requires c κs = whole-few _ (is-whole-file (c .before .before .before .before .before))
 
 returns-4 : tie.Need-returns-4
 unfolding judge-outcome
 returns-4 c =
     c .judge-chain .ensures
-    ∙ sym (first-passes _ 11 _ (size (c .before .before .before .before .before .before)) ∙ first-passes _ 2 _
-    (level-told (c .before .before .before .before) ∙ c .before .before .before .if2 .left) ∙ first-passes _ 12 _
+    ∙ sym (first-passes _ 11 _ (whole-passes (c .before .before .before .before .before .before)) ∙ first-passes _ 2 _
+    (level-test (c .before .before .before .before) ∙ c .before .before .before .if2 .left) ∙ first-passes _ 12 _
     (sym (ap not (c .before .before .zeros .ensures)) ∙ c .before .if3 .left) ∙ first-none _)
 
-pub judge-to-spec : {M : Type 1} → statement M
-judge-to-spec =
+pub judge-spec : {M : Type 1} → statement M
+judge-spec =
     tie.close
     (tie.spec
     is-whole-requires

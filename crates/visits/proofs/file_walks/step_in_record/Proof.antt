@@ -1,22 +1,22 @@
--- `file_walks::here` meets its contract.
+-- `file_walks::step_in_record`: a position is refused exactly where the region is outside its limits.
 -- Assumes nothing.
 use mathlib.Core.Path.{sym, ap, ap₂, _∙_}
+use borrow.Author.Tests.{le-leb, lt-leb}
+use borrow.Author.Needs.{needs}
 use lib.IntN.{ℤ}
 use mir.Syntax.{w32}
 use mir.Val.{SFits}
 use mir.ValLaws.{toZ-ofZ}
-use borrow.Author.Tests.{le-leb, lt-leb}
 use Rattle.stage.specs.declared.regions.Position.{Position}
 use Rattle.stage.specs.Region.{of-placed}
-use Rattle.visits.specs.Stepping.{here}
+use Rattle.visits.specs.Stepping.{step-in-record}
 use Rattle.visits.proofs.Coming.{refused-outside, accepted-inside}
-use Rattle.visits.proofs.Steps.{told, here-visit}
-use borrow.Author.Needs.{needs}
-use Rattle.visits.proofs.file_walks.here.Statement.{statement}
-use Rattle.visits.proofs.file_walks.here.Tie as tie
+use Rattle.visits.proofs.Steps.{stepped, step-in-record-visit}
+use Rattle.visits.proofs.file_walks.step_in_record.Statement.{statement}
+use Rattle.visits.proofs.file_walks.step_in_record.Tie as tie
 
 returns : tie.Need-returns
-unfolding here
+unfolding step-in-record
 returns c = sym (simp (le-leb _ _ (c .if1 .taken)))
 
 position-of-requires : tie.Need-position-of-requires
@@ -32,7 +32,7 @@ add-t14 : tie.Need-add-t14
 add-t14 c = search needs
 
 returns-2 : tie.Need-returns-2
-unfolding here
+unfolding step-in-record
 returns-2 c =
     let p = c .before .before .before .before .before .before .args .walk in
     sym (simp (
@@ -42,7 +42,7 @@ returns-2 c =
     ))
 
 returns-3 : tie.Need-returns-3
-unfolding here
+unfolding step-in-record
 returns-3 c =
     let p = c .before .before .before .before .before .before .before .before .args .walk in
     let at = c .before .before .placed .given .0 .0 in
@@ -50,11 +50,11 @@ returns-3 c =
     (sym (c .before .before .before .before .position-of .ensures) ∙ ap of-placed (c .before .before .placed .given .1)) in
     let fx : SFits w32 (at .x) = search needs in
     let fy : SFits w32 (at .y) = search needs in
-    ap₂ (λ (x y : ℤ). told p (record { number = p .number; index = p .index; x = x; y = y }))
+    ap₂ (λ (x y : ℤ). stepped p (record { number = p .number; index = p .index; x = x; y = y }))
     (toZ-ofZ w32 (at .x) fx ∙ ap (λ (q : Position). q .x) (sym (e .1))) (toZ-ofZ w32 (at .y) fy ∙ ap (λ (q : Position). q .y) (sym (e .1)))
-    ∙ sym (here-visit p (c .before .before .before .before .before .if1 .left) (e .0))
+    ∙ sym (step-in-record-visit p (c .before .before .before .before .before .if1 .left) (e .0))
 
-pub here-spec : {M : Type 1} → statement M
-here-spec =
+pub step-in-record-spec : {M : Type 1} → statement M
+step-in-record-spec =
     tie.close
     (tie.spec returns position-of-requires enum-told enum-known-placed add-t14 returns-2 returns-3)

@@ -1,21 +1,21 @@
-// The records of the chain as the planner reads them, and the next of them that has a visit.
+// The records of a file as the planner reads them, and walks that stand before or at one.
 use crate::file_walks::FileWalk;
 use plan::Shift;
 use region_file::Record;
 use stage::Region;
 ghost use mathlib.Core.Path.{_≡_};
 ghost use Rattle.visits.specs.Visits.{planned};
-ghost use Rattle.visits.specs.FileWalk.{listable, leading-to};
-ghost use Rattle.visits.specs.Stepping.{Found};
+ghost use Rattle.visits.specs.FileWalk.{listable, before-record};
+ghost use Rattle.visits.specs.Stepping.{AtNextVisit};
 
 // Record n as the planner reads it.
-fn planned(file: &[u8], n: u32) -> Record
+pub(crate) fn planned(file: &[u8], n: u32) -> Record
     ensures { λ r. ⌜ r ≡ planned (now (file .entry)) n ⌝ }
 {
     region_file::record_at(file, n)
 }
 
-// Whether a number names a record of the file whose region lies within its limits.
+// Whether n names a record of the file whose region lies within its limits.
 fn listable(file: &[u8], n: u32) -> bool
     ensures { λ r. ⌜ r ≡ listable (now (file .entry)) n ⌝ }
 {
@@ -30,9 +30,9 @@ fn listable(file: &[u8], n: u32) -> bool
     region.within()
 }
 
-// A walk behind a record without visits, from which the chain goes on at a number, for at most so many records.
-pub(crate) fn leading_to(next: u32, links: u32) -> FileWalk
-    ensures { λ r. ⌜ r ≡ leading-to next links ⌝ }
+// The walk before the record `next`, with at most `links` records to follow. It holds a record without visits, whose next is `next`.
+pub(crate) fn before_record(next: u32, links: u32) -> FileWalk
+    ensures { λ r. ⌜ r ≡ before-record next links ⌝ }
 {
     FileWalk {
         number: 0,
@@ -52,9 +52,10 @@ pub(crate) fn leading_to(next: u32, links: u32) -> FileWalk
     }
 }
 
-// The first record from a number on that has a visit, or a walk that has ended.
-pub(crate) fn found(file: &[u8], start: u32, links: u32) -> FileWalk
-    ensures { λ r. ⌜ Found (now (file .entry)) start links r ⌝ }
+// The walk at the first visit of the chain that begins with record `start`, with at most `links` records; a walk that has ended where
+// the chain has no visit. Records without visits are passed over.
+pub(crate) fn at_next_visit(file: &[u8], start: u32, links: u32) -> FileWalk
+    ensures { λ r. ⌜ AtNextVisit (now (file .entry)) start links r ⌝ }
 {
     let mut n = start;
     let mut left = links;

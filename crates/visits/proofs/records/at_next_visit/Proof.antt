@@ -1,22 +1,22 @@
--- `chain::found` meets its contract: what is to come from the number at hand is what is to come from the start.
+-- `records::at_next_visit`. The loop's invariant: the visits from n on, over the links that are left, are those from the start on.
 -- Assumes nothing.
 use mathlib.Core.Path.{_≡_, sym, ap, _∙_, subst}
 use mathlib.Core.List.{List, []}
 use mathlib.Core.Logic.{inl, inr}
 use Prim.Native.Nat.{ℕ, _-_, _^_, _≤_, _<_}
-use denote.Ref.{now}
 use borrow.Author.Needs.{needs}
 use borrow.Author.Tests.{not-true, not-false}
+use denote.Ref.{now}
 use Rattle.region_file.specs.declared.fields.Record.{Record}
 use Rattle.visits.specs.declared.file_walks.FileWalk.{FileWalk}
-use Rattle.visits.specs.FileWalk.{from, to-come, ended}
-use Rattle.visits.specs.Stepping.{Found}
-use Rattle.visits.proofs.Coming.{from-over, from-stop, from-empty, start-of, start-comes, ended-comes}
-use Rattle.visits.proofs.chain.found.Statement.{statement}
-use Rattle.visits.proofs.chain.found.Tie as tie
+use Rattle.visits.specs.FileWalk.{visits-from, visits-to-come, ended-walk}
+use Rattle.visits.specs.Stepping.{AtNextVisit}
+use Rattle.visits.proofs.Coming.{visits-from-none, visits-from-stop, visits-from-empty, start-of, start-comes, ended-comes}
+use Rattle.visits.proofs.records.at_next_visit.Statement.{statement}
+use Rattle.visits.proofs.records.at_next_visit.Tie as tie
 
 abbrev Inv-loop : tie.InvT-loop
-Inv-loop file start links n₀ left₀ n left = (n < 2 ^ 32) × (left ≤ links) × (from file left n ≡ from file links start)
+Inv-loop file start links n₀ left₀ n left = (n < 2 ^ 32) × (left ≤ links) × (visits-from file left n ≡ visits-from file links start)
 
 abbrev μ-loop : tie.MeasureT-loop
 μ-loop file start links n₀ left₀ n left = left
@@ -31,16 +31,16 @@ ended-requires : tie.Need-ended-requires Inv-loop μ-loop
 ended-requires c κs = search needs
 
 -- a walk that has ended, where nothing is to come
-none : (file : List ℕ) (start links : ℕ) (p : FileWalk) → p ≡ ended → from file links start ≡ [] → Found file start links p
+none : (file : List ℕ) (start links : ℕ) (p : FileWalk) → p ≡ ended-walk → visits-from file links start ≡ [] → AtNextVisit file start links p
 none file start links p e h =
-    let c = ap (to-come file) e ∙ ended-comes file in
+    let c = ap (visits-to-come file) e ∙ ended-comes file in
     record { same = c ∙ sym h; ready = inr c }
 
 returns : tie.Need-returns Inv-loop μ-loop
 returns c =
     let file = now (c .before .before .before .before .before .before .args .file) in
     let i = c .before .before .before .before .loop in
-    let e = from-stop file (i .left) (i .n) (sym (c .before .before .listable .ensures) ∙ not-true _ (c .before .if1 .taken)) in
+    let e = visits-from-stop file (i .left) (i .n) (sym (c .before .before .listable .ensures) ∙ not-true _ (c .before .if1 .taken)) in
     none file (c .before .before .before .before .before .before .args .start) (c .before .before .before .before .before .before .args .links)
     (c .ended .result) (c .ended .ensures) (sym (i .inv .2) ∙ e)
 
@@ -57,7 +57,7 @@ returns-2 c =
     let e = c .before .before .planned .ensures in
     let h = sym (c .before .before .before .before .listable .ensures) ∙ not-false _ (c .before .before .before .if1 .left) in
     let comes = start-comes file (i .left) (i .n) (c .before .before .before .before .before .loop-test .taken) h in
-    record { same = ap (λ (r : Record). to-come file (start-of (i .n) r (i .left - 1))) e ∙ comes ∙ i .inv .2; ready = inl (c .if2 .taken) }
+    record { same = ap (λ (r : Record). visits-to-come file (start-of (i .n) r (i .left - 1))) e ∙ comes ∙ i .inv .2; ready = inl (c .if2 .taken) }
 
 loop-less : tie.Need-loop-less Inv-loop μ-loop
 loop-less c = search needs
@@ -70,8 +70,8 @@ loop-again c =
     let h = sym (c .before .before .before .before .listable .ensures) ∙ not-false _ (c .before .before .before .if1 .left) in (
       search needs,
       search needs,
-      ap (λ (r : Record). from file (i .left - 1) (r .next)) e
-          ∙ sym (from-empty file (i .left) (i .n) (c .before .before .before .before .before .loop-test .taken) h
+      ap (λ (r : Record). visits-from file (i .left - 1) (r .next)) e
+          ∙ sym (visits-from-empty file (i .left) (i .n) (c .before .before .before .before .before .loop-test .taken) h
           (subst (λ (r : Record). r .count ≤ 0) e (c .if2 .left)))
           ∙ i .inv .2,
     )
@@ -84,10 +84,10 @@ returns-3 c =
     let file = now (c .before .before .before .before .args .file) in
     let i = c .before .before .loop in
     none file (c .before .before .before .before .args .start) (c .before .before .before .before .args .links) (c .ended2 .result)
-    (c .ended2 .ensures) (sym (i .inv .2) ∙ from-over file (i .left) (i .n) (c .before .loop-test .left))
+    (c .ended2 .ensures) (sym (i .inv .2) ∙ visits-from-none file (i .left) (i .n) (c .before .loop-test .left))
 
-pub found-spec : {M : Type 1} → statement M
-found-spec =
+pub at-next-visit-spec : {M : Type 1} → statement M
+at-next-visit-spec =
     tie.close
     (tie.spec
     Inv-loop

@@ -1,14 +1,14 @@
--- `chain::listable` meets its contract.
+-- `records::listable`: each return is a case of the definition `listable`.
 -- Assumes nothing.
 use mathlib.Core.Path.{sym, ap, _∙_, subst}
 use Prim.Native.Nat.{ℕ, _≤_, _<_}
+use borrow.Author.Needs.{needs}
 use denote.Ref.{now}
 use Rattle.stage.specs.Region.{within}
 use Rattle.region_file.specs.declared.fields.Record.{Record}
 use Rattle.visits.proofs.Coming.{listable-zero, listable-past, listable-region}
-use borrow.Author.Needs.{needs}
-use Rattle.visits.proofs.chain.listable.Statement.{statement}
-use Rattle.visits.proofs.chain.listable.Tie as tie
+use Rattle.visits.proofs.records.listable.Statement.{statement}
+use Rattle.visits.proofs.records.listable.Tie as tie
 
 returns : tie.Need-returns
 returns c = let a = c .before .before .args in sym (listable-zero (now (a .file)) (a .n) (c .if1 .taken))

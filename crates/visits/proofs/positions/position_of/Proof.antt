@@ -1,12 +1,12 @@
--- `file_walks::position_of` meets its contract.
+-- `positions::position_of`: the point of the standard pair, placed in the record's region.
 -- Assumes nothing.
 use mathlib.Core.Path.{ap, _∙_}
 use Prim.Native.Nat.{ℕ}
+use borrow.Author.Needs.{needs}
 use Rattle.stage.specs.Region.{position-outcome}
 use Rattle.visits.specs.Visits.{position-of}
-use borrow.Author.Needs.{needs}
-use Rattle.visits.proofs.file_walks.position_of.Statement.{statement}
-use Rattle.visits.proofs.file_walks.position_of.Tie as tie
+use Rattle.visits.proofs.positions.position_of.Statement.{statement}
+use Rattle.visits.proofs.positions.position_of.Tie as tie
 
 standard-point-requires : tie.Need-standard-point-requires
 standard-point-requires c κs = search needs

@@ -1,0 +1,25 @@
+-- The chain of a file: record 0 names its first record, and each record names the next. Number 0 ends it.
+use mathlib.Core.Bool.{Bool, false, cond, _||_}
+use mathlib.Core.List.{List, [], _∷_}
+use Prim.Native.Nat.{ℕ, zero, suc}
+use lib.Dec.{eqb}
+use Rattle.region_file.specs.Fields.{record-at, first-record, most-records}
+
+-- the numbers of the chain that begins with n: the first `links` of them, or all where it ends before
+unfoldable pub numbers : List ℕ → ℕ → ℕ → List ℕ
+numbers file zero n = []
+numbers file (suc links) n = cond (eqb n 0) [] (n ∷ numbers file links (record-at file n .next))
+
+-- the numbers of a file's chain. A file that is accepted has no more than most-records (`Theorem`); of other bytes, whose chain may
+-- return or be longer, these are the first ones.
+abbrev pub chain-numbers : List ℕ → List ℕ
+chain-numbers file = numbers file most-records (first-record file)
+
+-- n is one of the list
+unfoldable pub member : ℕ → List ℕ → Bool
+member n [] = false
+member n (k ∷ ks) = eqb k n || member n ks
+
+-- record n is on the chain of the file
+abbrev pub on-chain : List ℕ → ℕ → Bool
+on-chain file n = member n (chain-numbers file)
