@@ -18,5 +18,5 @@ products-filled columns added start old =
     cond (goes-past index-count start (length old)) old (map (offset-product columns added) (range start (length old)))
 
 -- the number of indexes of a group
-abbrev pub group : ℕ
-group = 64
+abbrev pub group-size : ℕ
+group-size = 64

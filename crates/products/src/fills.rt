@@ -11,7 +11,7 @@ ghost use Prim.Native.Nat.{_+_, _%_, _≤_, _<_};
 ghost use lib.ListN.{length};
 ghost use Rattle.ranges.specs.Range.{range};
 ghost use Rattle.word.specs.Index.{index-count};
-ghost use Rattle.products.specs.Products.{offset-product, group, products-filled};
+ghost use Rattle.products.specs.Products.{offset-product, group-size, products-filled};
 
 // Fills a buffer with the products of a generator matrix with the indexes from start on, a word added to each. A buffer that would go past
 // the last index is left as it was.
@@ -49,7 +49,7 @@ fn in_parts(columns: Columns, added: u32, start: Index, out: &mut [u32])
 
 // How many of n indexes from start on come before the first multiple of 64.
 fn ahead(start: Index, n: usize) -> usize
-    ensures { λ r. ⌜ (r ≤ n) × (r < n → (start + r) % group ≡ 0) ⌝ }
+    ensures { λ r. ⌜ (r ≤ n) × (r < n → (start + r) % group-size ≡ 0) ⌝ }
 {
     let past = start as usize % GROUP;
     if past == 0 {

@@ -12,7 +12,7 @@ ghost use Rattle.ranges.specs.Range.{range};
 ghost use Rattle.digits.specs.Digits.{plus};
 ghost use Rattle.word.specs.Index.{index-bits, index-count};
 ghost use Rattle.word.specs.Prefix.{prefixes};
-ghost use Rattle.products.specs.Products.{offset-product, group};
+ghost use Rattle.products.specs.Products.{offset-product, group-size};
 
 // The number of indexes of a group.
 pub(crate) const GROUP: usize = 64;
@@ -20,7 +20,7 @@ pub(crate) const GROUP: usize = 64;
 // Writes whole groups. Within one the products are the first of it exclusive or those of the indexes 0 to 63.
 pub(crate) fn in_groups(axis: Axis, start: Index, out: &mut [u32])
     requires { ⌜ (axis .sums ≡ prefixes 2 index-bits (axis .columns)) × (start + length (now out) ≤ index-count) ⌝ }
-    requires { ⌜ (start % group ≡ 0) × (length (now out) % group ≡ 0) ⌝ }
+    requires { ⌜ (start % group-size ≡ 0) × (length (now out) % group-size ≡ 0) ⌝ }
     ensures { λ _. ⌜ now (out .exit) ≡ map (offset-product (axis .columns) (axis .added)) (range start (length (now (out .entry)))) ⌝ }
 {
     let low = first_group(axis);
@@ -39,7 +39,7 @@ pub(crate) fn in_groups(axis: Axis, start: Index, out: &mut [u32])
 // The products with the indexes 0 to 63, with nothing added.
 fn first_group(axis: Axis) -> [u32; GROUP]
     requires { ⌜ axis .sums ≡ prefixes 2 index-bits (axis .columns) ⌝ }
-    ensures { λ r. ⌜ r ≡ map (offset-product (axis .columns) 0) (range 0 group) ⌝ }
+    ensures { λ r. ⌜ r ≡ map (offset-product (axis .columns) 0) (range 0 group-size) ⌝ }
 {
     let columns = axis.columns;
     let sums = axis.sums;
@@ -55,8 +55,8 @@ fn first_group(axis: Axis) -> [u32; GROUP]
 
 // Writes one group, from its first product and those of the indexes 0 to 63.
 fn put_group(word: u32, low: [u32; GROUP], out: &mut [u32])
-    requires { ⌜ length (now out) ≡ group ⌝ }
-    ensures { λ _. ⌜ now (out .exit) ≡ map (λ i. plus 2 word (getD low i 0)) (range 0 group) ⌝ }
+    requires { ⌜ length (now out) ≡ group-size ⌝ }
+    ensures { λ _. ⌜ now (out .exit) ≡ map (λ i. plus 2 word (getD low i 0)) (range 0 group-size) ⌝ }
 {
     let mut i: usize = 0;
     while i < GROUP {

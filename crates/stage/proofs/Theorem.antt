@@ -6,14 +6,14 @@ use mathlib.Core.Path.{subst}
 use lib.Dec.{lit<}
 use lib.IntN.{ℤ}
 use Rattle.stage.specs.Position.{offset, position}
-use Rattle.stage.specs.Theorem.{Inside, Theorems}
+use Rattle.stage.specs.Theorem.{InExtent, Theorems}
 use Rattle.stage.proofs.Limits.{within-has}
 use Rattle.stage.proofs.Sums.{le-plus, plus-lt-plus}
 
 offset-lt : (x w : ℕ) → 0 < x → w < 2 ^ 32 → offset x w < x
 offset-lt x w p h = div-lt-iff-lt-mul (lit< tt) .1 (subst (λ (k : ℕ). w * x < k) (mul-comm (2 ^ 32) x) (mul-lt-mul-of-pos-right h p))
 
-axis : (e : ℤ) (x w : ℕ) → 0 < x → w < 2 ^ 32 → Inside e x (position e x w)
+axis : (e : ℤ) (x w : ℕ) → 0 < x → w < 2 ^ 32 → InExtent e x (position e x w)
 axis e x w p h = (le-plus e (offset x w), plus-lt-plus e (offset x w) x (offset-lt x w p h))
 
 pub theorems : Theorems

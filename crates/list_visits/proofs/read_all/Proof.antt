@@ -1,4 +1,4 @@
--- `read_all` meets its contract: what is read stands at the start of the buffer.
+-- `read_all`: what is read stands at the start of the buffer.
 -- Assumes nothing.
 use Rattle.io.proofs.Counting.{counts}
 use mathlib.Core.Path.{_≡_}

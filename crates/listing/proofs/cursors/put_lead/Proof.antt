@@ -1,5 +1,4 @@
--- `cursors::put_lead` meets its contract.
--- Assumes nothing.
+-- `put_lead`: each lead has room where the longest line has.
 use mathlib.Core.Path.{_≡_, refl, sym, _∙_, subst}
 use mathlib.Core.List.{List}
 use Prim.Native.Nat.{ℕ}

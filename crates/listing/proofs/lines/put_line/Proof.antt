@@ -1,5 +1,4 @@
--- `lines::put_line` meets its contract.
--- Assumes nothing.
+-- `put_line`: the four fields are put one behind the other, and each has room.
 use mathlib.Core.Path.{subst}
 use denote.Ref.{now}
 use lib.IntN.{ℤ}

@@ -1,4 +1,4 @@
--- `lines::put_lines` meets its contract: what stands in the buffer, with the lines to come, stays the same.
+-- `put_lines`: what stands in the buffer, with the lines to come, stays the same.
 -- Assumes nothing.
 use mathlib.Core.Path.{_≡_, refl, sym, ap, _∙_, subst}
 use mathlib.Core.List.{List, [], _∷_, _++_}

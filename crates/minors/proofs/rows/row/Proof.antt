@@ -1,4 +1,4 @@
--- `stratify::minors::row` meets its contract: the entries in the columns from c on are the bits of the word. Assumes nothing.
+-- `row`: the entries in the columns from c on are the bits of the word.
 use mathlib.Core.Path.{_≡_, ap}
 use Prim.Native.Nat.{ℕ, suc, _-_, _/_, _%_, _^_, _≤_}
 use native.Mathlib.Omega.{arith}

@@ -1,4 +1,4 @@
--- `stratify::minors::rows` meets its contract: after r turns the first r rows stand. Assumes nothing.
+-- `rows`: after r turns the first r rows stand.
 use mathlib.Core.Path.{_≡_, refl}
 use Prim.Native.Nat.{ℕ, _-_, _≤_, _<_}
 use native.Mathlib.Omega.{arith}

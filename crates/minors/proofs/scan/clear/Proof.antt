@@ -1,4 +1,4 @@
--- `stratify::minors::clear` meets its contract: after t turns the first t words are cleared. Assumes nothing.
+-- `clear`: after t turns the first t words are cleared.
 use mathlib.Core.Path.{_≡_, refl}
 use Prim.Native.Nat.{ℕ, _-_, _≤_, _<_}
 use native.Mathlib.Omega.{arith}

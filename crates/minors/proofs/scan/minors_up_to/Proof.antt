@@ -1,4 +1,4 @@
--- `stratify::minors::along` meets its contract: after each turn one more row is reduced. Assumes nothing.
+-- `minors_up_to`: after each turn one more row is reduced.
 use mathlib.Core.Path.{_≡_}
 use Prim.Native.Nat.{_-_, _≤_, _<_}
 use native.Mathlib.Omega.{arith}

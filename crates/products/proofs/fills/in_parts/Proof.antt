@@ -1,4 +1,4 @@
--- `plan::fills::coordinates` meets its contract: each part is filled where the one before it ends. Assumes nothing.
+-- `in_parts`: each part is filled where the one before it ends.
 use mathlib.Core.Path.{_≡_, refl, sym}
 use mathlib.Core.List.{List}
 use Prim.Native.Nat.{ℕ, _+_, _-_, _*_, _/_}

@@ -1,4 +1,4 @@
--- `plan::fills::first_group` meets its contract: the words from index 0 on, with no shift. Assumes nothing.
+-- `first_group`: the products from index 0 on, with nothing added.
 use borrow.Author.Needs.{needs}
 use Rattle.products.proofs.groups.first_group.Statement.{statement}
 use Rattle.products.proofs.groups.first_group.Tie as tie

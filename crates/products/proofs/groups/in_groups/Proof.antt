@@ -1,4 +1,4 @@
--- `plan::fills::in_groups` meets its contract: each group is filled and leads to the next. Assumes nothing.
+-- `in_groups`: each group that is written leads to the next.
 use mathlib.Core.Path.{_≡_, _∙_}
 use Prim.Native.Nat.{_+_, _-_, _%_, _<_}
 use native.Mathlib.Omega.{arith}

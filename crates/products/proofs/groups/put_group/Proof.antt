@@ -1,4 +1,4 @@
--- `plan::fills::put_group` meets its contract: the first i words are put. Assumes nothing.
+-- `put_group`: after i turns the first i words stand.
 use mathlib.Core.Path.{sym, ap, _∙_}
 use mathlib.Core.List.{List, map}
 use Prim.Native.Nat.{ℕ, _-_, _≤_}

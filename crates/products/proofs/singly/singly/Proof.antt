@@ -1,4 +1,4 @@
--- `plan::fills::singly` meets its contract: each word is filled and leads to the next. Assumes nothing.
+-- `singly`: each word that is written leads to the next.
 use mathlib.Core.Path.{_≡_, ap, _∙_}
 use mathlib.Core.List.{List}
 use Prim.Native.Nat.{ℕ, _+_, _-_, _^_, _<_}

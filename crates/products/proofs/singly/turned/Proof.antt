@@ -1,4 +1,4 @@
--- `plan::fills::turned` meets its contract: a number other than 0 has a lowest bit. Assumes nothing.
+-- `turned`: a number other than 0 has a lowest bit.
 use mathlib.Core.Path.{refl}
 use lib.Count.{trailing-le}
 use Rattle.word.proofs.Prefix.{trailing-zeros-below}

@@ -1,4 +1,4 @@
--- `stratify::bits::top` meets its contract. Assumes nothing.
+-- `top`: a shift to the right is a quotient by a power of two.
 use Prim.Native.Nat.{_-_}
 use native.Mathlib.Omega.{arith}
 use borrow.Author.Needs.{needs}

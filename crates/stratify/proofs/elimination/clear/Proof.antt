@@ -1,4 +1,4 @@
--- `stratify::elimination::clear` meets its contract: a part more is cleared. Assumes nothing.
+-- `clear`: from c up to the part at hand the words are cleared, and from there on nothing has changed.
 use mathlib.Core.Path.{_≡_, sym, _∙_}
 use Prim.Native.Nat.{_-_, _%_, _≤_}
 use native.Mathlib.Omega.{arith}

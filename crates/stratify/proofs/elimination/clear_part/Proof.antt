@@ -1,4 +1,4 @@
--- `stratify::elimination::clear_part` meets its contract: a place more is cleared. Assumes nothing.
+-- `clear_part`: up to the word at hand the part is cleared, and from there on nothing has changed.
 use mathlib.Core.Path.{_≡_, sym, _∙_}
 use Prim.Native.Nat.{_+_, _-_, _≤_}
 use native.Mathlib.Omega.{arith}

@@ -1,4 +1,4 @@
--- `stratify::elimination::eliminate` meets its contract: a column more is an entry of the basis. Assumes nothing.
+-- `eliminate`: after c turns the first c words are a basis of the model, and the words after them are cleared by it.
 use mathlib.Core.Path.{refl, sym, _∙_}
 use Prim.Native.Nat.{ℕ, _-_, _≤_}
 use native.Mathlib.Omega.{arith}

@@ -1,4 +1,4 @@
--- `stratify::elimination::put_columns` meets its contract: a column more is put. Assumes nothing.
+-- `put_columns`: after c turns the first c columns stand beside their indexes.
 use mathlib.Core.Path.{_≡_, sym, ap₂, _∙_}
 use Prim.Native.Nat.{ℕ, _+_, _-_, _*_, _^_, _≤_}
 use native.Mathlib.Omega.{arith}

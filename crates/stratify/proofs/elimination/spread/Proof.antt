@@ -1,4 +1,4 @@
--- `stratify::elimination::spread` meets its contract. Assumes nothing.
+-- `spread`: a test of one bit, as a mask.
 use Prim.Native.Nat.{_<_}
 use native.Mathlib.Omega.{arith}
 use lib.Count.{trailingZeros}

@@ -1,4 +1,4 @@
--- `stratify::cells::find` meets its contract: the least j, or the only index of the block in the cell. Assumes nothing.
+-- `find`: the least j, or the only index of the block in the cell.
 use mathlib.Core.Path.{_≡_, sym, ap, subst}
 use Prim.Native.Nat.{ℕ, _+_, _*_, _^_}
 use native.Mathlib.Omega.{arith}

@@ -1,4 +1,4 @@
--- `unit::numbers::coordinate` meets its contract. Assumes nothing.
+-- `coordinate`: by the precision asked for.
 use borrow.Author.Needs.{needs}
 use Rattle.unit.proofs.numbers.coordinate.Statement.{statement}
 use Rattle.unit.proofs.numbers.coordinate.Tie as tie

@@ -1,4 +1,4 @@
--- `unit::numbers::double` meets its contract: the divisor is 2 ^ 32 as a double. Assumes nothing.
+-- `double`: the divisor is 2 ^ 32 as a double.
 use borrow.Author.Needs.{needs}
 use lib.Ieee.{ofBits}
 use Rattle.unit.proofs.Doubles.{double-is}

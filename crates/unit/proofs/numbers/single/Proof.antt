@@ -1,4 +1,4 @@
--- `unit::numbers::single` meets its contract: the bits are no NaN's. Assumes nothing.
+-- `single`: the bits are no NaN's.
 use mathlib.Core.Path.{sym, ap, subst}
 use mathlib.Core.Bool.{not}
 use Prim.Native.Nat.{ℕ}

@@ -1,4 +1,4 @@
--- `unit::numbers::single_bits` meets its contract: no digit is shifted out, so the digits kept are those of the definition. Assumes nothing.
+-- `single_bits`: no digit is shifted out, so the digits kept are those of the definition.
 use native.Mathlib.Nat.{mod-eq-of-lt}
 use native.Mathlib.Omega.{arith}
 use borrow.Author.Needs.{needs}

@@ -1,4 +1,4 @@
--- `unit::pairs::singles_at` meets its contract. Assumes nothing.
+-- `singles_at`: the singles of the plan's point.
 use mathlib.Core.Path.{ap, _∙_}
 use borrow.Author.Needs.{needs}
 use Rattle.unit.specs.Singles.{singles-of}

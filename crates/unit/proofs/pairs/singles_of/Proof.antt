@@ -1,4 +1,4 @@
--- `unit::pairs::singles_of` meets its contract. Assumes nothing.
+-- `singles_of`: coordinate by coordinate.
 use borrow.Author.Needs.{needs}
 use Rattle.unit.proofs.pairs.singles_of.Statement.{statement}
 use Rattle.unit.proofs.pairs.singles_of.Tie as tie

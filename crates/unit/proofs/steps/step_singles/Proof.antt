@@ -1,4 +1,4 @@
--- `unit::steps::step_singles` meets its contract: the plan's step, its visit as singles. Assumes nothing.
+-- `step_singles`: the plan's step, its visit as singles.
 use mathlib.Core.Path.{ap, _∙_}
 use Prim.Native.Nat.{ℕ}
 use borrow.Author.Needs.{needs}

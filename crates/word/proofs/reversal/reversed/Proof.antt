@@ -1,4 +1,4 @@
--- `reversed` meets its contract: after k turns the sum is the reversal of the lowest k bytes, and the rest are the bytes above them.
+-- `reversed`: after k turns the sum is the reversal of the lowest k bytes, and the rest are the bytes above them.
 -- That the table holds the reversed bytes is one computed test, where the loop begins.
 use mathlib.Core.Path.{_≡_, refl}
 use mathlib.Core.List.{map}

@@ -1,4 +1,4 @@
--- `identity_columns` meets its contract: after c turns the first c columns stand, and the word is column c.
+-- `identity_columns`: after c turns the first c columns stand, and the word is column c.
 use Prim.Native.Nat.{_/_, _-_, _≤_}
 use native.Mathlib.Omega.{arith}
 use Rattle.digits.proofs.Two.{one-lt-two}

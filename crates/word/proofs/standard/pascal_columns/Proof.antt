@@ -1,4 +1,4 @@
--- `pascal_columns` meets its contract: as for the identity, with a step that adds the word a row further down.
+-- `pascal_columns`: as for the identity, with a step that adds the word a row further down.
 use mathlib.Core.Path.{_≡_, _∙_}
 use Prim.Native.Nat.{ℕ, suc, _/_, _-_, _≤_}
 use native.Mathlib.Omega.{arith}

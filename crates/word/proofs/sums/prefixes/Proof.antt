@@ -1,4 +1,4 @@
--- `prefixes` meets its contract: the sum is the product with as many ones as columns are in it. Assumes nothing.
+-- `prefixes`: the sum is the product with as many ones as columns are in it.
 use mathlib.Core.Path.{_≡_, sym, ap, _∙_}
 use mathlib.Core.List.{List}
 use Prim.Native.Nat.{ℕ, suc, _-_, _≤_}

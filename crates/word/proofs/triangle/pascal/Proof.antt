@@ -1,4 +1,4 @@
--- `pascal` meets its contract: the steps to come, done to the present word, give the product.
+-- `pascal`: the steps to come, done to the present word, give the product.
 -- That the five steps send each column of the identity to that of Pascal's triangle is one computed test, where the loop begins.
 use mathlib.Core.Path.{_≡_, refl, sym, _∙_}
 use Prim.Native.Nat.{_-_, _≤_}

@@ -1,5 +1,4 @@
--- `Cursor::open` meets its contract.
--- Assumes nothing.
+-- `Cursor::open`: by the outcome of opening the file, the header and all visits are to come, or the refusal alone.
 use mathlib.Core.Path.{sym, ap, ap₂, _∙_}
 use mathlib.Core.List.{List, _++_, append-nil}
 use Prim.Native.Nat.{ℕ}

@@ -1,5 +1,4 @@
--- `Cursor::piece` meets its contract.
--- Assumes nothing.
+-- `Cursor::piece`: the lead's text and the lines put behind it are what was to come, up to what is to come from the next cursor.
 use mathlib.Core.Path.{_≡_, refl, sym, ap, _∙_}
 use mathlib.Core.List.{List, [], _++_}
 use Prim.Native.Nat.{ℕ, _+_, _-_, _≤_, zero-le}

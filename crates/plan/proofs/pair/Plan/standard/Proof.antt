@@ -1,4 +1,4 @@
--- `plan::pair::Plan::standard` meets its contract. Assumes nothing.
+-- `Plan::standard`: the two lists of columns make the pair.
 use borrow.Author.Needs.{needs}
 use Rattle.plan.proofs.pair.Plan.standard.Statement.{statement}
 use Rattle.plan.proofs.pair.Plan.standard.Tie as tie

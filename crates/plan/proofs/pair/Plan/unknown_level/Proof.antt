@@ -1,4 +1,4 @@
--- `plan::pair::Plan::unknown_level` meets its contract. Assumes nothing.
+-- `Plan::unknown_level`: from 1 on the second comparison decides.
 use mathlib.Core.Path.{sym}
 use Rattle.plan.proofs.Level.{level-low, level-high}
 use Rattle.plan.proofs.pair.Plan.unknown_level.Statement.{statement}

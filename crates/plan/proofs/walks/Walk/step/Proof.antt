@@ -1,4 +1,4 @@
--- `plan::walks::Walk::step` meets its contract: the tests of net's step, in its order. Assumes nothing.
+-- `Walk::step`: the tests of net's step, in its order.
 use native.Mathlib.Omega.{arith}
 use borrow.Author.Tests.{eq-eqb, ne-eqb, le-ltb}
 use borrow.Author.Needs.{needs}
