@@ -1,7 +1,1 @@
-pub mod Outcomes
-pub mod Loading
-pub mod Stepping
-pub mod Refusals
-pub mod Signs
-pub mod Copies
-pub mod Words
+pub mod FileWalks

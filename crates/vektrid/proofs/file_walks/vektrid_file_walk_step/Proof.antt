@@ -4,15 +4,15 @@ use mathlib.Core.Path.{ap₂, _∙_}
 use denote.Ref.{now}
 use mir.Syntax.{w32}
 use mir.ValLaws.{toZ-ofZ}
-use Rattle.vektrid.specs.Words.{VisitWords, visit-words}
-use Rattle.vektrid.proofs.Words.{step-ended, step-visited}
+use Rattle.vektrid.specs.FileWalks.{VisitWords, visit-words}
+use Rattle.vektrid.proofs.FileWalks.{step-ended, step-visited}
 use borrow.Author.Needs.{needs}
 use Rattle.vektrid.proofs.file_walks.vektrid_file_walk_step.Statement.{statement}
 use Rattle.vektrid.proofs.file_walks.vektrid_file_walk_step.Tie as tie
 
 -- the lent words at entry
 abbrev held : tie.Start → VisitWords
-held s = let a = s .args in visit-words (now (a .given)) (now (a .number)) (now (a .index)) (now (a .px)) (now (a .py))
+held s = let a = s .args in visit-words (now (a .given)) (now (a .record-number)) (now (a .index)) (now (a .at-x)) (now (a .at-y))
 
 walk-of-requires : tie.Need-walk-of-requires
 walk-of-requires c κs = search needs

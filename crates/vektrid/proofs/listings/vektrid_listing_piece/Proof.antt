@@ -2,7 +2,7 @@
 -- Assumes nothing.
 use mathlib.Core.Path.{sym}
 use denote.Ref.{now}
-use Rattle.vektrid.proofs.Words.{piece-same}
+use Rattle.vektrid.proofs.FileWalks.{piece-same}
 use borrow.Author.Needs.{needs}
 use Rattle.vektrid.proofs.listings.vektrid_listing_piece.Statement.{statement}
 use Rattle.vektrid.proofs.listings.vektrid_listing_piece.Tie as tie

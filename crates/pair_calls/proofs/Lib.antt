@@ -1,0 +1,5 @@
+pub mod Outcomes
+pub mod Loading
+pub mod Stepping
+pub mod Refusals
+pub mod Copies
