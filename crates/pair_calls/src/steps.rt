@@ -52,7 +52,15 @@ pub fn step(
 {
     let answer = pair_answer(words);
     if answer != 0 {
-        return StepAnswer { answer, next, left, given, index, x, y };
+        return StepAnswer {
+            answer,
+            next,
+            left,
+            given,
+            index,
+            x,
+            y,
+        };
     }
     let plan = pair_plan(words);
     let walk = Walk { next, left };
@@ -107,7 +115,15 @@ pub fn step_singles(
 {
     let answer = pair_answer(words);
     if answer != 0 {
-        return SinglesStepAnswer { answer, next, left, given, index, x, y };
+        return SinglesStepAnswer {
+            answer,
+            next,
+            left,
+            given,
+            index,
+            x,
+            y,
+        };
     }
     let plan = pair_plan(words);
     let walk = Walk { next, left };

@@ -26,6 +26,15 @@ pub extern "C" fn vektrid_fill(
         return answer;
     }
     let plan = pair_plan(words);
-    let filled = plan::fill(plan, Shift { x: shift_x, y: shift_y }, start, xs, ys);
+    let filled = plan::fill(
+        plan,
+        Shift {
+            x: shift_x,
+            y: shift_y,
+        },
+        start,
+        xs,
+        ys,
+    );
     number_of(filled)
 }

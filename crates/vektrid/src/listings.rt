@@ -1,6 +1,5 @@
 // Listings in pieces, from a cursor of words that the caller keeps.
 use file_words::CursorWords;
-use file_words::cursor_of;
 use file_words::words_of_cursor;
 use listing::Cursor;
 ghost use mathlib.Core.Path.{_≡_};
@@ -33,10 +32,8 @@ pub extern "C" fn vektrid_listing_piece(
         (take r (now (out .exit))) (length (now (out .exit))) ⌝ }
     ensures rest { λ r. ⌜ drop r (now (out .exit)) ≡ drop r (now (out .entry)) ⌝ }
 {
-    let start = cursor_of(*cursor);
-    let piece = start.piece(file, out);
-    let next = piece.next;
-    let past = words_of_cursor(next);
+    let piece = file_words::piece_words(file, *cursor, out);
+    let past = piece.cursor;
     *cursor = past;
     piece.len
 }

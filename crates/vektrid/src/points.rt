@@ -28,7 +28,13 @@ pub extern "C" fn vektrid_point(
         return answer;
     }
     let plan = pair_plan(words);
-    let point = plan.point(Shift { x: shift_x, y: shift_y }, index);
+    let point = plan.point(
+        Shift {
+            x: shift_x,
+            y: shift_y,
+        },
+        index,
+    );
     *x = point.x;
     *y = point.y;
     0
@@ -36,11 +42,23 @@ pub extern "C" fn vektrid_point(
 
 // The point of an index of the standard pair, by its own faster way.
 #[no_mangle]
-pub extern "C" fn vektrid_standard_point(shift_x: u32, shift_y: u32, index: u32, x: &mut u32, y: &mut u32)
+pub extern "C" fn vektrid_standard_point(
+    shift_x: u32,
+    shift_y: u32,
+    index: u32,
+    x: &mut u32,
+    y: &mut u32,
+)
     ensures x { λ _. ⌜ now (x .exit) ≡ point (sequence standard-pair (record { x = «shift_x»; y = «shift_y» })) index .0 ⌝ }
     ensures y { λ _. ⌜ now (y .exit) ≡ point (sequence standard-pair (record { x = «shift_x»; y = «shift_y» })) index .1 ⌝ }
 {
-    let point = Plan::standard_point(Shift { x: shift_x, y: shift_y }, index);
+    let point = Plan::standard_point(
+        Shift {
+            x: shift_x,
+            y: shift_y,
+        },
+        index,
+    );
     *x = point.x;
     *y = point.y;
 }

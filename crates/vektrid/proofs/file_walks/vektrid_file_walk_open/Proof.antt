@@ -4,7 +4,7 @@ use mathlib.Core.Path.{refl, sym, ap, _∙_}
 use denote.Ref.{now}
 use Rattle.visits.specs.FileWalk.{to-come, of-opened}
 use Rattle.pair_calls.proofs.Outcomes.{refused-answer, accepted-answer}
-use Rattle.vektrid.proofs.FileWalks.{opened, unopened}
+use Rattle.file_words.proofs.FileWalks.{opened, unopened}
 use borrow.Author.Needs.{needs}
 use Rattle.vektrid.proofs.file_walks.vektrid_file_walk_open.Statement.{statement}
 use Rattle.vektrid.proofs.file_walks.vektrid_file_walk_open.Tie as tie

@@ -1,16 +1,33 @@
 -- `fills::vektrid_fill` meets its contract.
 -- Assumes nothing.
-use mathlib.Core.Path.{sym, ap, _∙_}
+use mathlib.Core.Path.{_≡_, sym, ap, _∙_}
+use mathlib.Core.List.{List}
+use Prim.Native.Nat.{ℕ}
+use borrow.Author.Needs.{needs}
+use Rattle.refusal.specs.Outcome.{Outcome, then}
 use Rattle.refusal.proofs.First.{granted-accepted, granted-refused}
 use Rattle.plan.specs.declared.pair.Plan.{Plan}
-use Rattle.plan.specs.Pair.{sequence}
-use Rattle.plan.specs.Fill.{Buffers, filled}
+use Rattle.plan.specs.Pair.{sequence, load-outcome, loaded}
+use Rattle.plan.specs.Fill.{Buffers, fill-outcome, filled}
 use Rattle.pair_calls.specs.Answers.{answer-number}
+use Rattle.pair_calls.specs.Calls.{pair-filled}
 use Rattle.pair_calls.proofs.Outcomes.{refused-answer}
 use Rattle.pair_calls.proofs.Loading.{load-refused, load-accepted, stops, goes-on}
-use borrow.Author.Needs.{needs}
 use Rattle.vektrid.proofs.fills.vektrid_fill.Statement.{statement}
 use Rattle.vektrid.proofs.fills.vektrid_fill.Tie as tie
+
+-- the number of what the fill came to is the number of what the call comes to
+answered : (words : List ℕ) (fill : Outcome Unit) {n : ℕ} → n ≡ answer-number (load-outcome words) → n ≡ 0 → {o : Outcome Unit} → o ≡ fill
+    → {r : ℕ} → r ≡ answer-number o → r ≡ answer-number (then (load-outcome words) fill)
+answered words fill is none came number = number ∙ ap answer-number (came ∙ sym (goes-on words is fill none))
+
+-- a buffer that was filled from the loaded matrices holds what the call leaves in it
+buffer : (one : Buffers → List ℕ) (words : List ℕ) (x y start : ℕ) (xs ys : List ℕ) {n : ℕ} → n ≡ answer-number (load-outcome words) → n ≡ 0
+    → {plan : Plan} → plan ≡ loaded words → {new : List ℕ} → new ≡ one (filled (sequence plan (record { x = x; y = y })) start xs ys)
+    → new ≡ one (pair-filled words x y start xs ys)
+buffer one words x y start xs ys is none loads holds =
+    holds ∙ ap (λ (P : Plan). one (filled (sequence P (record { x = x; y = y })) start xs ys)) loads
+    ∙ ap one (sym (granted-accepted _ _ (load-accepted words is none)))
 
 pair-answer-requires : tie.Need-pair-answer-requires
 pair-answer-requires c κs = search needs
@@ -43,11 +60,14 @@ returns-2 c =
     let l = d .before .before .before in
     let a = l .before .before .before .before .before .before .args in
     let n = l .before .before .pair-answer .ensures in
-    let none = l .before .if1 .left in
-    let kept = ap (λ (P : Plan). filled (sequence P (record { x = a .shift-x; y = a .shift-y })) (a .start) (a .xs .now) (a .ys .now)) (l .pair-plan .ensures)
-    ∙ sym (granted-accepted _ _ (load-accepted (a .words .now) n none)) in (
-      c .number-of .ensures ∙ ap answer-number (d .fill .ensures .0 ∙ sym (goes-on (a .words .now) n _ none)),
-      (d .fill .ensures .1 .0 ∙ ap (λ (b : Buffers). b .x) kept, d .fill .ensures .1 .1 ∙ ap (λ (b : Buffers). b .y) kept),
+    let none = l .before .if1 .left in (
+      answered (a .words .now) (fill-outcome (a .start) (a .xs .now) (a .ys .now)) n none (d .fill .ensures .0) (c .number-of .ensures),
+      (
+        buffer (λ b. b .x) (a .words .now) (a .shift-x) (a .shift-y) (a .start) (a .xs .now) (a .ys .now) n none (l .pair-plan .ensures)
+            (d .fill .ensures .1 .0),
+        buffer (λ b. b .y) (a .words .now) (a .shift-x) (a .shift-y) (a .start) (a .xs .now) (a .ys .now) n none (l .pair-plan .ensures)
+            (d .fill .ensures .1 .1),
+      ),
     )
 
 pub vektrid-fill-spec : {M : Type 1} → statement M

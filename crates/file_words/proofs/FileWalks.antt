@@ -1,4 +1,4 @@
--- What the calls on a file leave in the words, by what the walk or the cursor behind them did.
+-- What a call on a file leaves in the words, by what the walk or the cursor that they stand for did.
 -- Assumes nothing.
 use mathlib.Core.Path.{_≡_, sym, ap, _∙_, subst}
 use mathlib.Core.List.{List}
@@ -11,8 +11,8 @@ use Rattle.visits.specs.declared.file_walks.Step.the-variants as step
 use Rattle.visits.specs.FileWalk.{to-come, Gives}
 use Rattle.listing.specs.declared.cursors.Cursor.{Cursor}
 use Rattle.listing.specs.Cursor.{ListingPiece}
 use Rattle.file_words.specs.Words.{walk-of}
-use Rattle.vektrid.specs.FileWalks.{visits-from, Opens, all-but-first, VisitWords, visit-words, visit-left}
+use Rattle.file_words.specs.FileWalks.{visits-from, Opens, all-but-first, VisitWords, visit-words, visit-given, visit-left}
 
 -- a piece of a listing, between cursors that are the same
 pub piece-same : (file piece : List ℕ) (room : ℕ) {c c' d d' : Cursor} → c ≡ c' → d ≡ d' → ListingPiece file c d piece room → ListingPiece file c' d' piece room
@@ -32,14 +32,20 @@ module _ (file : List ℕ) {o : Outcome (List FileVisit)} (old new : List ℕ) w
 module _ (file old new : List ℕ) {p q : FileWalk} (from : p ≡ walk-of old) (to : walk-of new ≡ q) (held : VisitWords) {s : Step}
     (gave : Gives file p s q) where
   pub step-ended : s ≡ step.Ended → (visits-from file new ≡ all-but-first (visits-from file old))
-      × (visit-words 0 (held .number) (held .index) (held .x) (held .y) ≡ visit-left (visits-from file old) held)
+      × (0 ≡ visit-given (visits-from file old)) × (held ≡ visit-left (visits-from file old) held)
   step-ended e =
       let (none, no-more) = subst (λ (t : Step). Gives file p t q) e gave in
-      let is = sym (ap (to-come file) from) ∙ none in
-      (ap (to-come file) to ∙ no-more ∙ sym (ap all-but-first is), sym (ap (λ (vs : List FileVisit). visit-left vs held) is))
+      let is = sym (ap (to-come file) from) ∙ none in (
+        ap (to-come file) to ∙ no-more ∙ sym (ap all-but-first is),
+        sym (ap visit-given is),
+        sym (ap (λ (vs : List FileVisit). visit-left vs held) is),
+      )
 
   pub step-visited : {v : FileVisit} → s ≡ step.Visited v → (visits-from file new ≡ all-but-first (visits-from file old))
-      × (visit-words 1 (v .number) (v .index) (v .x) (v .y) ≡ visit-left (visits-from file old) held)
+      × (1 ≡ visit-given (visits-from file old)) × (visit-words (v .number) (v .index) (v .x) (v .y) ≡ visit-left (visits-from file old) held)
   step-visited e =
-      let is = sym (ap (to-come file) from) ∙ subst (λ (t : Step). Gives file p t q) e gave in
-      (ap (to-come file) to ∙ sym (ap all-but-first is), sym (ap (λ (vs : List FileVisit). visit-left vs held) is))
+      let is = sym (ap (to-come file) from) ∙ subst (λ (t : Step). Gives file p t q) e gave in (
+        ap (to-come file) to ∙ sym (ap all-but-first is),
+        sym (ap visit-given is),
+        sym (ap (λ (vs : List FileVisit). visit-left vs held) is),
+      )
