@@ -1,4 +1,4 @@
-//! Listings in pages of any room, whole buffers compared.
+//! Listings in pieces of any room, whole buffers compared.
 
 use reference::listing::listing;
 use reference::trial::splitmix::Splitmix;
@@ -8,44 +8,44 @@ use vektrid::{Listing, LONGEST_LINE};
 use crate::case::{simplified, Case};
 use crate::simpler::simpler_file;
 
-/// What a buffer holds before its page.
+/// What a buffer holds before its piece.
 const MARK: u8 = 0xEE;
 
-/// Too small for a page, just large enough, and at the end of a second line or a third.
+/// Too small for a piece, just large enough, and at the end of a second line or a third.
 const ROOMS: [usize; 14] = [0, 1, 17, 45, 46, 47, 62, 63, 64, 91, 92, 93, 137, 138];
 
-/// No more pages are asked for, so that a listing that is never whole ends too.
-const MOST_PAGES: usize = 20_000;
+/// No more pieces are asked for, so that a listing that is never whole ends too.
+const MOST_PIECES: usize = 20_000;
 
 #[derive(Clone)]
-pub struct Pages {
+pub struct Pieces {
     file: Vec<u8>,
     /// The rooms of the buffers in turn.
     rooms: Vec<usize>,
 }
 
-/// The length of each page and its whole buffer.
+/// The length of each piece and its whole buffer.
 type Answer = Vec<(usize, Vec<u8>)>;
 
-impl Case for Pages {
-    const NAME: &'static str = "listing in pages";
+impl Case for Pieces {
+    const NAME: &'static str = "listing in pieces";
     const COUNT: u64 = 20_000;
     const OUTCOMES: &'static [u32] = &[0];
     type Answer = Answer;
 
-    fn make(random: &mut Splitmix, number: u64) -> Pages {
+    fn make(random: &mut Splitmix, number: u64) -> Pieces {
         let file = files::make(u64::from(random.word()), number);
         let mut rooms: Vec<usize> = (0..random.below(6)).map(|_| room(random)).collect();
         // At least one has room for a line, or the listing would never be whole.
         rooms.push(LONGEST_LINE + random.below(200) as usize);
-        Pages { file, rooms }
+        Pieces { file, rooms }
     }
 
     /// The rule of the header: whole lines while the longest line has room.
     fn expected(&self) -> Answer {
         let listing = listing(&self.file);
         let mut rest = listing.as_slice();
-        self.pages(|buffer| {
+        self.pieces(|buffer| {
             let mut length = 0;
             while buffer.len() - length >= LONGEST_LINE && !rest.is_empty() {
                 let end =
@@ -60,27 +60,27 @@ impl Case for Pages {
 
     fn given(&self) -> Answer {
         let mut listing = Listing::open(&self.file);
-        self.pages(|buffer| listing.page(buffer))
+        self.pieces(|buffer| listing.piece(buffer))
     }
 
     fn outcome(_: &Answer) -> u32 {
         0
     }
 
-    fn simpler(&self) -> Vec<Pages> {
+    fn simpler(&self) -> Vec<Pieces> {
         let fewer = (0..self.rooms.len()).map(|at| {
             let mut rooms = self.rooms.clone();
             rooms.remove(at);
-            Pages { rooms, ..self.clone() }
+            Pieces { rooms, ..self.clone() }
         });
         let files = simpler_file(&self.file).into_iter();
-        let smaller = files.map(|file| Pages { file, ..self.clone() });
-        fewer.filter(Pages::ends).chain(smaller).collect()
+        let smaller = files.map(|file| Pieces { file, ..self.clone() });
+        fewer.filter(Pieces::ends).chain(smaller).collect()
     }
 
-    fn smallest(mut self) -> Pages {
+    fn smallest(mut self) -> Pieces {
         let rooms = self.rooms.clone();
-        let differs = |file: &[u8]| Pages { file: file.to_vec(), rooms: rooms.clone() }.differs();
+        let differs = |file: &[u8]| Pieces { file: file.to_vec(), rooms: rooms.clone() }.differs();
         self.file = shrink::shrunk(self.file, differs);
         simplified(self)
     }
@@ -92,9 +92,9 @@ impl Case for Pages {
         ];
         for (length, buffer) in self.expected() {
             lines.push(format!(
-                "let mut page = [{MARK}; {}];\n\
-                 assert_eq!(listing.page(&mut page), {length});\n\
-                 assert_eq!(page, *b\"{}\");",
+                "let mut piece = [{MARK}; {}];\n\
+                 assert_eq!(listing.piece(&mut piece), {length});\n\
+                 assert_eq!(piece, *b\"{}\");",
                 buffer.len(),
                 buffer.escape_ascii()
             ));
@@ -103,19 +103,19 @@ impl Case for Pages {
     }
 }
 
-impl Pages {
-    /// Pages up to the one that says that the listing is whole.
-    fn pages(&self, mut page: impl FnMut(&mut [u8]) -> usize) -> Answer {
-        let mut pages = Vec::new();
-        for &room in self.rooms.iter().cycle().take(MOST_PAGES) {
+impl Pieces {
+    /// Pieces up to the one that says that the listing is whole.
+    fn pieces(&self, mut piece: impl FnMut(&mut [u8]) -> usize) -> Answer {
+        let mut pieces = Vec::new();
+        for &room in self.rooms.iter().cycle().take(MOST_PIECES) {
             let mut buffer = vec![MARK; room];
-            let length = page(&mut buffer);
-            pages.push((length, buffer));
+            let length = piece(&mut buffer);
+            pieces.push((length, buffer));
             if length == 0 && room >= LONGEST_LINE {
                 break;
             }
         }
-        pages
+        pieces
     }
 
     fn ends(&self) -> bool {
