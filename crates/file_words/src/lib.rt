@@ -1,7 +1,8 @@
-// File walks and listing cursors as words that a caller keeps, and back; a step and a piece by such words. C keeps them so: an array of
-// numbers needs no heap and no handle. All words stand for a walk and for a cursor, so nothing that a caller writes there is wrong.
+// File walks and listing cursors as words that a caller keeps, and back; opening, a step and a piece by such words. C keeps them so: an
+// array of numbers needs no heap and no handle. All words stand for a walk and for a cursor, so nothing that a caller writes there is wrong.
 mod cursors;
 mod file_walks;
+mod openings;
 mod pieces;
 mod steps;
 
@@ -13,6 +14,8 @@ pub use file_walks::FILE_WALK_WORDS;
 pub use file_walks::FileWalkWords;
 pub use file_walks::walk_of;
 pub use file_walks::words_of;
+pub use openings::OpenedWords;
+pub use openings::open_words;
 pub use pieces::PieceWords;
 pub use pieces::piece_words;
 pub use steps::SteppedWords;

@@ -12,7 +12,7 @@ use Rattle.refusal.specs.Outcome.{Outcome, accepted, refused, first, then}
 use Rattle.refusal.proofs.First.{then-accepted, then-refused}
 use Rattle.plan.specs.declared.pair.Plan.{Plan}
 use Rattle.plan.specs.Pair.{load-outcome, loaded}
-use Rattle.pair_calls.specs.Answers.{answer-number}
+use Rattle.answers.specs.Answers.{answer-number}
 use Rattle.pair_calls.specs.Calls.{of-pair}
 
 -- loading by its one test

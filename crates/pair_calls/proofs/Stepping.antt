@@ -10,9 +10,9 @@ use Rattle.refusal.specs.Outcome.{Outcome, accepted}
 use Rattle.plan.specs.declared.pair.Plan.{Plan}
 use Rattle.plan.specs.Pair.{sequence, load-outcome, loaded}
 use Rattle.plan.specs.Range.{last-index}
-use Rattle.pair_calls.specs.Answers.{answer-number, StepWords, step-words, left-by-step, left-in}
+use Rattle.answers.specs.Answers.{answer-number, StepWords, step-words, left-by-step, left-in}
 use Rattle.pair_calls.specs.Calls.{pair-points, of-pair}
-use Rattle.pair_calls.proofs.Outcomes.{refused-answer, refused-leaves, accepted-answer, accepted-hands}
+use Rattle.answers.proofs.Outcomes.{refused-answer, refused-leaves, accepted-answer, accepted-hands}
 use Rattle.pair_calls.proofs.Loading.{stops, gives}
 
 -- the step from the lent words, of any visits

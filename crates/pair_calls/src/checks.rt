@@ -3,7 +3,7 @@ use refusal::Judgement;
 use refusal::Refusal;
 ghost use mathlib.Core.Path.{_≡_};
 ghost use Rattle.stratify.specs.Answers.{check-outcome};
-ghost use Rattle.pair_calls.specs.Answers.{answer-number, value-left};
+ghost use Rattle.answers.specs.Answers.{answer-number, value-left};
 
 // The answer, and what the words lent for a bad shape and its least index hold then.
 pub struct CheckAnswer {

@@ -1,14 +1,14 @@
 // Calls with a pair given as 64 words, by value: the words that C lends come in as numbers and go out in a struct, with the answer's
 // number. The crate vektrid stores them. Every call takes any words, and refuses what is no pair before all else.
-mod answers;
 mod checks;
+mod fills;
 mod pairs;
 mod queries;
 mod steps;
 
-pub use answers::number_of;
 pub use checks::CheckAnswer;
 pub use checks::check;
+pub use fills::fill;
 pub use pairs::PAIR_WORDS;
 pub use pairs::pair_answer;
 pub use pairs::pair_plan;

@@ -5,7 +5,7 @@ use word::Columns;
 ghost use mathlib.Core.Path.{_≡_};
 ghost use lib.ListN.{length};
 ghost use Rattle.plan.specs.Pair.{load-outcome, loaded};
-ghost use Rattle.pair_calls.specs.Answers.{answer-number};
+ghost use Rattle.answers.specs.Answers.{answer-number};
 ghost use Rattle.pair_calls.specs.Calls.{standard-words};
 
 // The words of one matrix: its columns.

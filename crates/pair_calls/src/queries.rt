@@ -5,7 +5,7 @@ use plan::Shift;
 use refusal::Refusal;
 use stratify::Located;
 ghost use mathlib.Core.Path.{_≡_};
-ghost use Rattle.pair_calls.specs.Answers.{answer-number, part-left, value-left};
+ghost use Rattle.answers.specs.Answers.{answer-number, part-left, value-left};
 ghost use Rattle.pair_calls.specs.Calls.{pair-query-outcome};
 
 // The answer, and what the words lent for the index and for the least index of a bad shape hold then.

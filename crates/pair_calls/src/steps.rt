@@ -7,7 +7,7 @@ use plan::Walk;
 use unit::SinglesStep;
 ghost use mathlib.Core.Path.{_≡_};
 ghost use Prim.Native.Nat.{ℕ};
-ghost use Rattle.pair_calls.specs.Answers.{answer-number, step-words, left-in};
+ghost use Rattle.answers.specs.Answers.{answer-number, step-words, left-in};
 ghost use Rattle.pair_calls.specs.Calls.{step-outcome, two-singles, step-singles-outcome};
 
 // The answer, and what the words lent to a step hold then.

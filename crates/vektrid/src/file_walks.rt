@@ -1,11 +1,8 @@
 // Walks among the visits of a region file, as words that the caller keeps.
 use file_words::FileWalkWords;
-use file_words::words_of;
-use visits::FileWalk;
-use visits::Opened;
 ghost use mathlib.Core.Path.{_≡_};
 ghost use Rattle.visits.specs.Visits.{visits-outcome};
-ghost use Rattle.pair_calls.specs.Answers.{answer-number};
+ghost use Rattle.answers.specs.Answers.{answer-number};
 ghost use Rattle.file_words.specs.FileWalks.{visits-from, Opens, all-but-first, visit-given, visit-words, visit-left};
 
 // The walk before the first visit of a file.
@@ -14,15 +11,10 @@ pub extern "C" fn vektrid_file_walk_open(file: &[u8], walk: &mut FileWalkWords) 
     ensures answer { λ r. ⌜ r ≡ answer-number (visits-outcome (now (file .entry))) ⌝ }
     ensures walk { λ _. ⌜ Opens (now (file .entry)) (visits-outcome (now (file .entry))) (now (walk .entry)) (now (walk .exit)) ⌝ }
 {
-    let opened = FileWalk::open(file);
-    match opened {
-        Opened::Refused(why) => why.number(),
-        Opened::Open(start) => {
-            let words = words_of(start);
-            *walk = words;
-            0
-        }
-    }
+    let opened = file_words::open_words(file, *walk);
+    let words = opened.walk;
+    *walk = words;
+    opened.answer
 }
 
 // The next visit, if there is one, and the walk past it.

@@ -1,10 +1,6 @@
 // Fills of two lent buffers.
-use pair_calls::number_of;
-use pair_calls::pair_answer;
-use pair_calls::pair_plan;
-use plan::Shift;
 ghost use mathlib.Core.Path.{_≡_};
-ghost use Rattle.pair_calls.specs.Answers.{answer-number};
+ghost use Rattle.answers.specs.Answers.{answer-number};
 ghost use Rattle.pair_calls.specs.Calls.{pair-fill-outcome, pair-filled};
 
 // The points of the indexes from start on, as many as the buffers have room for.
@@ -21,20 +17,5 @@ pub extern "C" fn vektrid_fill(
     ensures xs { λ _. ⌜ now (xs .exit) ≡ pair-filled (now (words .entry)) «shift_x» «shift_y» start (now (xs .entry)) (now (ys .entry)) .x ⌝ }
     ensures ys { λ _. ⌜ now (ys .exit) ≡ pair-filled (now (words .entry)) «shift_x» «shift_y» start (now (xs .entry)) (now (ys .entry)) .y ⌝ }
 {
-    let answer = pair_answer(words);
-    if answer != 0 {
-        return answer;
-    }
-    let plan = pair_plan(words);
-    let filled = plan::fill(
-        plan,
-        Shift {
-            x: shift_x,
-            y: shift_y,
-        },
-        start,
-        xs,
-        ys,
-    );
-    number_of(filled)
+    pair_calls::fill(words, shift_x, shift_y, start, xs, ys)
 }

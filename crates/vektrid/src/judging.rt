@@ -1,8 +1,8 @@
 // The judgement of a region file.
-use pair_calls::number_of;
+use answers::number_of;
 ghost use mathlib.Core.Path.{_≡_};
 ghost use Rattle.region_file.specs.Judge.{judge-outcome, most-visits};
-ghost use Rattle.pair_calls.specs.Answers.{answer-number};
+ghost use Rattle.answers.specs.Answers.{answer-number};
 
 // Whether a file is accepted: 0, or the number of the refusal.
 #[no_mangle]

@@ -2,7 +2,7 @@
 ghost use mathlib.Core.Path.{_≡_};
 ghost use Rattle.plan.specs.Pair.{load-outcome};
 ghost use Rattle.stratify.specs.Answers.{check-outcome};
-ghost use Rattle.pair_calls.specs.Answers.{answer-number, value-left};
+ghost use Rattle.answers.specs.Answers.{answer-number, value-left};
 ghost use Rattle.pair_calls.specs.Calls.{standard-words};
 
 // The standard pair as 64 words.

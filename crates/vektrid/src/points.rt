@@ -6,7 +6,7 @@ use plan::Shift;
 ghost use mathlib.Core.Path.{_≡_};
 ghost use Rattle.net.specs.Sequence.{point};
 ghost use Rattle.plan.specs.Pair.{sequence, standard-pair};
-ghost use Rattle.pair_calls.specs.Answers.{answer-number, part-left};
+ghost use Rattle.answers.specs.Answers.{answer-number, part-left};
 ghost use Rattle.pair_calls.specs.Calls.{point-outcome};
 
 // The point of an index, for any pair.

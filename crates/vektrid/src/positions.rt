@@ -2,7 +2,7 @@
 use stage::Placed;
 use stage::Region;
 ghost use mathlib.Core.Path.{_≡_};
-ghost use Rattle.pair_calls.specs.Answers.{answer-number, part-left};
+ghost use Rattle.answers.specs.Answers.{answer-number, part-left};
 ghost use Rattle.vektrid.specs.Regions.{region-position-outcome};
 
 // Where the point with coordinate words x and y lies in a region.

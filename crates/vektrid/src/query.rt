@@ -1,6 +1,6 @@
 // The query of a cell.
 ghost use mathlib.Core.Path.{_≡_};
-ghost use Rattle.pair_calls.specs.Answers.{answer-number, part-left, value-left};
+ghost use Rattle.answers.specs.Answers.{answer-number, part-left, value-left};
 ghost use Rattle.pair_calls.specs.Calls.{pair-query-outcome};
 
 // The one index of a block in a cell; 3 gives the shape's least index.

@@ -4,7 +4,7 @@ use pair_calls::pair_plan;
 use plan::Shift;
 ghost use mathlib.Core.Path.{_≡_};
 ghost use Rattle.unit.specs.Word.{double, single};
-ghost use Rattle.pair_calls.specs.Answers.{answer-number, part-left, step-words, left-in};
+ghost use Rattle.answers.specs.Answers.{answer-number, part-left, step-words, left-in};
 ghost use Rattle.pair_calls.specs.Calls.{singles-outcome, two-singles, step-singles-outcome};
 
 // A word divided by 2^32, exactly.

@@ -4,7 +4,7 @@ use plan::Walk;
 ghost use mathlib.Core.Path.{_≡_};
 ghost use Prim.Native.Nat.{ℕ};
 ghost use Rattle.plan.specs.Walk.{open-outcome};
-ghost use Rattle.pair_calls.specs.Answers.{answer-number, part-left, step-words, left-in};
+ghost use Rattle.answers.specs.Answers.{answer-number, part-left, step-words, left-in};
 ghost use Rattle.pair_calls.specs.Calls.{step-outcome};
 
 // A walk over count visits from start on.

@@ -4,8 +4,8 @@ use mathlib.Core.Path.{sym, ap, _∙_}
 use borrow.Author.Needs.{needs}
 use Rattle.refusal.specs.Outcome.{refused}
 use Rattle.refusal.specs.Refusal.{number, of-refusal, of-judgement}
-use Rattle.pair_calls.proofs.Outcomes.{refused-answer, refused-gives, accepted-answer, accepted-leaves}
-use Rattle.pair_calls.proofs.Refusals.{no-values}
+use Rattle.answers.proofs.Outcomes.{refused-answer, refused-gives, accepted-answer, accepted-leaves}
+use Rattle.answers.proofs.Refusals.{no-values}
 use Rattle.pair_calls.proofs.checks.check.Statement.{statement}
 use Rattle.pair_calls.proofs.checks.check.Tie as tie
 

@@ -2,7 +2,7 @@
 -- Assumes nothing.
 use mathlib.Core.Path.{_∙_}
 use Rattle.plan.proofs.Loading.{loading-refuses, loading-accepts}
-use Rattle.pair_calls.proofs.Outcomes.{refused-answer, accepted-answer}
+use Rattle.answers.proofs.Outcomes.{refused-answer, accepted-answer}
 use borrow.Author.Needs.{needs}
 use Rattle.pair_calls.proofs.pairs.pair_answer.Statement.{statement}
 use Rattle.pair_calls.proofs.pairs.pair_answer.Tie as tie

@@ -9,7 +9,7 @@ use lib.Seq.{length-take-le}
 use Rattle.refusal.proofs.First.{granted-accepted, granted-refused}
 use Rattle.plan.specs.declared.pair.Plan.{Plan}
 use Rattle.plan.proofs.Loading.{loading-refuses, loading-accepts}
-use Rattle.pair_calls.proofs.Outcomes.{refused-answer, accepted-answer}
+use Rattle.answers.proofs.Outcomes.{refused-answer, accepted-answer}
 use Rattle.pair_calls.proofs.Copies.{halves}
 use borrow.Author.Needs.{needs}
 use Rattle.pair_calls.proofs.pairs.write_standard.Statement.{statement}

@@ -9,11 +9,11 @@ use Rattle.refusal.specs.Refusal.{number, of-refusal}
 use Rattle.plan.specs.declared.pair.Plan.{Plan}
 use Rattle.plan.specs.Pair.{load-outcome, loaded}
 use Rattle.stratify.specs.Answers.{query-outcome, of-located}
-use Rattle.pair_calls.specs.Answers.{answer-number}
+use Rattle.answers.specs.Answers.{answer-number}
 use Rattle.pair_calls.specs.Calls.{pair-query-outcome}
-use Rattle.pair_calls.proofs.Outcomes.{refused-answer, refused-leaves, refused-gives, accepted-answer, accepted-hands, accepted-leaves}
+use Rattle.answers.proofs.Outcomes.{refused-answer, refused-leaves, refused-gives, accepted-answer, accepted-hands, accepted-leaves}
 use Rattle.pair_calls.proofs.Loading.{stops, goes-on}
-use Rattle.pair_calls.proofs.Refusals.{no-values}
+use Rattle.answers.proofs.Refusals.{no-values}
 use Rattle.pair_calls.proofs.queries.query.Statement.{statement}
 use Rattle.pair_calls.proofs.queries.query.Tie as tie
 

@@ -5,7 +5,7 @@ use Prim.Native.Nat.{ℕ}
 use borrow.Author.Needs.{needs}
 use Rattle.net.specs.Run.{visit}
 use Rattle.plan.specs.Walk.{of-step}
-use Rattle.pair_calls.specs.Answers.{StepWords, step-words}
+use Rattle.answers.specs.Answers.{StepWords, step-words}
 use Rattle.pair_calls.proofs.Stepping.{step-refused, step-visited, step-ended}
 use Rattle.pair_calls.proofs.steps.step.Statement.{statement}
 use Rattle.pair_calls.proofs.steps.step.Tie as tie

@@ -4,7 +4,7 @@ use mathlib.Core.Path.{ap}
 use borrow.Author.Needs.{needs}
 use Rattle.unit.specs.declared.pairs.Singles.{Singles}
 use Rattle.unit.specs.Singles.{visit-singles, of-singles-step}
-use Rattle.pair_calls.specs.Answers.{StepWords, step-words}
+use Rattle.answers.specs.Answers.{StepWords, step-words}
 use Rattle.pair_calls.specs.Calls.{two-singles}
 use Rattle.pair_calls.proofs.Stepping.{step-refused, step-visited, step-ended}
 use Rattle.pair_calls.proofs.steps.step_singles.Statement.{statement}

@@ -1,7 +1,7 @@
 -- `judging::vektrid_judge` meets its contract.
 -- Assumes nothing.
 use mathlib.Core.Path.{ap, _∙_}
-use Rattle.pair_calls.specs.Answers.{answer-number}
+use Rattle.answers.specs.Answers.{answer-number}
 use borrow.Author.Needs.{needs}
 use Rattle.vektrid.proofs.judging.vektrid_judge.Statement.{statement}
 use Rattle.vektrid.proofs.judging.vektrid_judge.Tie as tie

@@ -2,7 +2,7 @@
 -- Assumes nothing.
 use Rattle.net.specs.Sequence.{point}
 use Rattle.plan.specs.Pair.{sequence}
-use Rattle.pair_calls.proofs.Outcomes.{refused-answer, refused-leaves, accepted-answer, accepted-hands}
+use Rattle.answers.proofs.Outcomes.{refused-answer, refused-leaves, accepted-answer, accepted-hands}
 use Rattle.pair_calls.proofs.Loading.{stops, gives}
 use borrow.Author.Needs.{needs}
 use Rattle.vektrid.proofs.points.vektrid_point.Statement.{statement}

@@ -9,7 +9,7 @@ use mir.Val.{SFits, toZ, ofZ}
 use mir.ValLaws.{toZ-ofZ}
 use Rattle.stage.specs.Region.{of-placed}
 use Rattle.vektrid.specs.Regions.{region-position-outcome}
-use Rattle.pair_calls.proofs.Outcomes.{refused-answer, refused-leaves, accepted-answer, accepted-hands}
+use Rattle.answers.proofs.Outcomes.{refused-answer, refused-leaves, accepted-answer, accepted-hands}
 use Rattle.vektrid.proofs.positions.vektrid_position.Statement.{statement}
 use Rattle.vektrid.proofs.positions.vektrid_position.Tie as tie
 

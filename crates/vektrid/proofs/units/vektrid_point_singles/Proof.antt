@@ -3,7 +3,7 @@
 use Rattle.net.specs.Sequence.{point}
 use Rattle.plan.specs.Pair.{sequence}
 use Rattle.unit.specs.Singles.{singles-of}
-use Rattle.pair_calls.proofs.Outcomes.{refused-answer, refused-leaves, accepted-answer, accepted-hands}
+use Rattle.answers.proofs.Outcomes.{refused-answer, refused-leaves, accepted-answer, accepted-hands}
 use Rattle.pair_calls.proofs.Loading.{stops, gives}
 use borrow.Author.Needs.{needs}
 use Rattle.vektrid.proofs.units.vektrid_point_singles.Statement.{statement}

@@ -1,12 +1,12 @@
--- `answers::number_of` meets its contract.
+-- `numbers::number_of` meets its contract.
 -- Assumes nothing.
 use mathlib.Core.Path.{sym, ap, _∙_}
 use Rattle.refusal.specs.declared.Judgement.{Judgement}
 use Rattle.refusal.specs.Refusal.{of-judgement}
-use Rattle.pair_calls.specs.Answers.{answer-number}
+use Rattle.answers.specs.Answers.{answer-number}
 use borrow.Author.Needs.{needs}
-use Rattle.pair_calls.proofs.answers.number_of.Statement.{statement}
-use Rattle.pair_calls.proofs.answers.number_of.Tie as tie
+use Rattle.answers.proofs.numbers.number_of.Statement.{statement}
+use Rattle.answers.proofs.numbers.number_of.Tie as tie
 
 enum-told : tie.Need-enum-told
 enum-told c = search needs

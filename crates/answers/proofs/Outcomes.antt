@@ -5,7 +5,7 @@ use mathlib.Core.List.{List}
 use Prim.Native.Nat.{ℕ}
 use lib.ListN.{getD}
 use Rattle.refusal.specs.Outcome.{Outcome, accepted, refused}
-use Rattle.pair_calls.specs.Answers.{answer-number, part-left, value-left}
+use Rattle.answers.specs.Answers.{answer-number, part-left, value-left}
 
 module _ {A : Type 0} {o : Outcome A} {n : ℕ} {vs : List ℕ} (e : o ≡ refused n vs) where
   pub refused-answer : n ≡ answer-number o

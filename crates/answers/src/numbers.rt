@@ -2,7 +2,7 @@
 use refusal::Judgement;
 ghost use mathlib.Core.Path.{_≡_};
 ghost use Rattle.refusal.specs.Refusal.{of-judgement};
-ghost use Rattle.pair_calls.specs.Answers.{answer-number};
+ghost use Rattle.answers.specs.Answers.{answer-number};
 
 // 0, or the refusal's number.
 pub fn number_of(judged: Judgement) -> u32

@@ -1,13 +1,13 @@
--- `file_walks::vektrid_file_walk_open` meets its contract.
+-- `openings::open_words`: the visits to come from the words are those of the walk that they stand for.
 -- Assumes nothing.
 use mathlib.Core.Path.{refl, sym, ap, _∙_}
 use denote.Ref.{now}
 use Rattle.visits.specs.FileWalk.{to-come, of-opened}
-use Rattle.pair_calls.proofs.Outcomes.{refused-answer, accepted-answer}
+use Rattle.answers.proofs.Outcomes.{refused-answer, accepted-answer}
 use Rattle.file_words.proofs.FileWalks.{opened, unopened}
 use borrow.Author.Needs.{needs}
-use Rattle.vektrid.proofs.file_walks.vektrid_file_walk_open.Statement.{statement}
-use Rattle.vektrid.proofs.file_walks.vektrid_file_walk_open.Tie as tie
+use Rattle.file_words.proofs.openings.open_words.Statement.{statement}
+use Rattle.file_words.proofs.openings.open_words.Tie as tie
 
 open-requires : tie.Need-open-requires
 open-requires c κs = search needs
@@ -38,8 +38,8 @@ returns-2 c =
     let e = sym (d .«open» .ensures) ∙ ap (of-opened file) (c .before .before .opened2 .given .1) in
     (accepted-answer e, opened file _ _ e (ap (to-come file) (c .words-of .ensures)))
 
-pub vektrid-file-walk-open-spec : {M : Type 1} → statement M
-vektrid-file-walk-open-spec =
+pub open-words-spec : {M : Type 1} → statement M
+open-words-spec =
     tie.close
     (tie.spec
     open-requires
