@@ -1,4 +1,4 @@
-// The listing of a region file with 2,047 records of 4,096 visits: 8,384,512 lines, a page of 64 KiB at a time, to /dev/null.
+// The listing of a region file with 2,047 records of 4,096 visits: 8,384,512 lines, a piece of 64 KiB at a time, to /dev/null.
 #include <fcntl.h>
 #include <unistd.h>
 
@@ -14,15 +14,15 @@
 
 namespace {
 
-// Ours: the sink gets each page.
+// Ours: the sink gets each piece.
 template <class Sink>
-void our_listing(const File& file, uint8_t* page, Sink sink) {
+void our_listing(const File& file, uint8_t* piece, Sink sink) {
     vektrid_cursor cursor;
     vektrid_listing_open(file.data(), file.size(), &cursor);
-    while (const size_t n = vektrid_listing_page(file.data(), file.size(), &cursor, page, kPage)) sink(page, n);
+    while (const size_t n = vektrid_listing_piece(file.data(), file.size(), &cursor, piece, kPiece)) sink(piece, n);
 }
 
-// Holds a stream of bytes against our listing, wherever either of them ends its pages.
+// Holds a stream of bytes against our listing, wherever either of them ends its pieces.
 class Against {
 public:
     explicit Against(const File& file) : file_(file) { vektrid_listing_open(file.data(), file.size(), &cursor_); }
@@ -30,7 +30,7 @@ public:
         while (n > 0 && equal_) {
             if (at_ == have_ && !refill()) equal_ = false;
             const size_t part = std::min(n, have_ - at_);
-            equal_ = equal_ && std::memcmp(bytes, &page_[at_], part) == 0;
+            equal_ = equal_ && std::memcmp(bytes, &piece_[at_], part) == 0;
             bytes += part, n -= part, at_ += part;
         }
     }
@@ -38,26 +38,26 @@ public:
 
 private:
     bool refill() {
-        have_ = vektrid_listing_page(file_.data(), file_.size(), &cursor_, page_.data(), page_.size());
+        have_ = vektrid_listing_piece(file_.data(), file_.size(), &cursor_, piece_.data(), piece_.size());
         at_ = 0;
         return have_ > 0;
     }
     const File& file_;
     vektrid_cursor cursor_;
-    std::vector<uint8_t> page_ = std::vector<uint8_t>(kPage);
+    std::vector<uint8_t> piece_ = std::vector<uint8_t>(kPiece);
     size_t at_ = 0, have_ = 0;
     bool equal_ = true;
 };
 
 template <class Writer>
 void compare_one(Report& report, const File& file, const char* name) {
-    std::vector<uint8_t> page(kPage);
+    std::vector<uint8_t> piece(kPiece);
     Against ours(file);
-    cpp_listing<Writer>(file, page.data(), [&](const uint8_t* bytes, size_t n) { ours.feed(bytes, n); });
+    cpp_listing<Writer>(file, piece.data(), [&](const uint8_t* bytes, size_t n) { ours.feed(bytes, n); });
     report.compare(ours.ended_equal(), std::string("listing against C++ ") + name);
 }
 
-// Where the pages go while time is taken.
+// Where the pieces go while time is taken.
 struct Null {
     int file;
     void operator()(const uint8_t* bytes, size_t n) const {
@@ -66,13 +66,13 @@ struct Null {
     }
 };
 
-void add_ours(Race& race, const File& file, std::vector<uint8_t>& page, Null null) {
-    race.add("ours", [&file, &page, null] { our_listing(file, page.data(), null); });
+void add_ours(Race& race, const File& file, std::vector<uint8_t>& piece, Null null) {
+    race.add("ours", [&file, &piece, null] { our_listing(file, piece.data(), null); });
 }
 
 template <class Writer>
-void add_theirs(Race& race, const char* name, const File& file, std::vector<uint8_t>& page, Null null) {
-    race.add(name, [&file, &page, null] { cpp_listing<Writer>(file, page.data(), null); });
+void add_theirs(Race& race, const char* name, const File& file, std::vector<uint8_t>& piece, Null null) {
+    race.add(name, [&file, &piece, null] { cpp_listing<Writer>(file, piece.data(), null); });
 }
 
 }  // namespace
@@ -87,14 +87,14 @@ void compare_listings(Report& report) {
 
 void measure_listings(Report& report) {
     const File file = region_file();
-    std::vector<uint8_t> page(kPage);
+    std::vector<uint8_t> piece(kPiece);
     const Null null{open("/dev/null", O_WRONLY)};
     Race race, slow;  // apart, so that the others run more often
-    add_ours(race, file, page, null);
-    add_ours(slow, file, page, null);
-    add_theirs<ToChars>(race, "to_chars", file, page, null);
-    add_theirs<ToCharsOnce>(race, "to_chars once", file, page, null);
-    add_theirs<Printf>(slow, "printf", file, page, null);
+    add_ours(race, file, piece, null);
+    add_ours(slow, file, piece, null);
+    add_theirs<ToChars>(race, "to_chars", file, piece, null);
+    add_theirs<ToCharsOnce>(race, "to_chars once", file, piece, null);
+    add_theirs<Printf>(slow, "printf", file, piece, null);
     race.run(8, 5);
     slow.run(6, 3);
     close(null.file);

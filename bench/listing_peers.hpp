@@ -10,7 +10,7 @@
 
 #include "peers.hpp"
 
-constexpr size_t kPage = 65536, kLongestLine = 46;
+constexpr size_t kPiece = 65536, kLongestLine = 46;
 constexpr uint32_t kRecords = 2047, kVisits = 4096;
 inline const std::string kHeader = "record visit x y\n";
 
@@ -42,9 +42,9 @@ inline int32_t position(uint32_t edge, uint32_t extent, uint32_t word) {
 
 // A listing, points by listing 19: a Writer starts a record and writes a line. The file is taken as good, which is in favour of the peer.
 template <class Writer, class Sink>
-void cpp_listing(const File& file, uint8_t* page, Sink sink) {
-    char* const begin = reinterpret_cast<char*>(page);
-    char* const end = begin + kPage;
+void cpp_listing(const File& file, uint8_t* piece, Sink sink) {
+    char* const begin = reinterpret_cast<char*>(piece);
+    char* const end = begin + kPiece;
     char* at = begin + kHeader.copy(begin, kHeader.size());
     uint32_t number;
     std::memcpy(&number, file.data(), sizeof number);
@@ -54,7 +54,7 @@ void cpp_listing(const File& file, uint8_t* page, Sink sink) {
         const Writer writer(number);
         for (uint32_t i = 0; i < record.count; ++i) {
             if (static_cast<size_t>(end - at) < kLongestLine) {
-                sink(page, static_cast<size_t>(at - begin));
+                sink(piece, static_cast<size_t>(at - begin));
                 at = begin;
             }
             const uint32_t x = reversed(i);
@@ -63,7 +63,7 @@ void cpp_listing(const File& file, uint8_t* page, Sink sink) {
         }
         number = record.next;
     }
-    sink(page, static_cast<size_t>(at - begin));
+    sink(piece, static_cast<size_t>(at - begin));
 }
 
 template <class Number>
@@ -98,7 +98,7 @@ struct ToCharsOnce {
     }
 };
 
-// snprintf into the page, which is faster than fprintf.
+// snprintf into the piece, which is faster than fprintf.
 struct Printf {
     uint32_t record;
     explicit Printf(uint32_t number) : record(number) {}

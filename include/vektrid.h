@@ -1,4 +1,4 @@
-/* Vektrid: the visit planner, as C calls of the proved library (crates/exports).
+/* Vektrid: the visit planner, as C calls of the proved library (crates/vektrid).
  *
  * Every call answers any numbers; none traps, prints or keeps anything. An answer of type uint32_t is 0, or the number of a refusal in
  * document 01's table (enum vektrid_refusal); a refused call leaves every lent word and buffer as it was, but for the values that
@@ -56,7 +56,7 @@ uint32_t vektrid_point(const uint32_t *words, size_t count, uint32_t shift_x, ui
 /* The point of an index of the standard pair, by the fast way. */
 void vektrid_standard_point(uint32_t shift_x, uint32_t shift_y, uint32_t index, uint32_t *x, uint32_t *y);
 
-/* The points of the indexes from start on, into every place of two buffers of equal length: 0, 1, 8 or 9. */
+/* The points of the indexes from start on, into every word of two buffers of equal length: 0, 1, 8 or 9. */
 uint32_t vektrid_fill(const uint32_t *words, size_t count, uint32_t shift_x, uint32_t shift_y, uint32_t start, uint32_t *xs, size_t xs_count,
                       uint32_t *ys, size_t ys_count);
 
@@ -80,8 +80,9 @@ uint32_t vektrid_walk_step_singles(const uint32_t *words, size_t count, uint32_t
 /* The shape (m, a) has 2^a columns and 2^(m-a) rows; a point's column is the top a bits of its x, its row the top m-a bits of its y. Block k
  * has the indexes k * 2^m to (k+1) * 2^m - 1. The level only bounds m; the pair need not be checked before.
  *
- * Writes the one index of the block whose point lies in the cell to *index: 0, or, the first that is due, 1, 2, 4, 5, 6, 7 or 3. 3 writes to *j
- * the least index above 0 that shares the cell of index 0 in this shape, whatever cell, block and shift were asked for. */
+ * Writes the one index of the block whose point lies in the cell to *index: 0, or the first refusal that applies, in the order 1, 2, 4,
+ * 5, 6, 7, 3. Refusal 3 writes to *j the least index above 0 that shares the cell of index 0 in this shape, whatever cell, block and shift
+ * were asked for. */
 uint32_t vektrid_query(const uint32_t *words, size_t count, uint32_t shift_x, uint32_t shift_y, uint32_t level, uint32_t m, uint32_t a,
                        uint32_t column, uint32_t row, uint32_t block, uint32_t *index, uint32_t *j);
 
@@ -104,33 +105,33 @@ uint32_t vektrid_position(int32_t left, int32_t top, uint32_t width, uint32_t he
 
 /* ---- region files */
 
-/* A place among the visits of a file, and a cursor in its listing. Words that a caller may copy and keep; any content is answered. Go on with
- * the bytes that were opened; with others the answers are some visits or text, and still nothing is written outside. */
-typedef struct vektrid_place {
+/* A walk among the visits of a file, and a cursor in its listing: words that a caller may copy and keep. Every content is answered. Go on
+ * with the bytes that were opened; with other bytes the answers are some visits or some text, and still nothing else is written. */
+typedef struct vektrid_file_walk {
     uint32_t words[11];
-} vektrid_place;
+} vektrid_file_walk;
 
 typedef struct vektrid_cursor {
     uint32_t words[13];
 } vektrid_cursor;
 
-/* Judges a whole file: 0, or, the first that is due, 11, 2, 12, and then at each link of the chain 13, 14, 10 or 15. */
+/* Judges a whole file: 0, or the first refusal that applies, in the order 11, 2, 12, and then at each link of the chain 13, 14, 10, 15. */
 uint32_t vektrid_judge(const uint8_t *file, size_t size);
 
-/* The place before the first visit of a file, or the refusal of the file as vektrid_judge gives it. */
-uint32_t vektrid_visits_open(const uint8_t *file, size_t size, vektrid_place *place);
+/* The walk before the first visit of a file: 0, or the refusal of the file as vektrid_judge gives it. */
+uint32_t vektrid_file_walk_open(const uint8_t *file, size_t size, vektrid_file_walk *walk);
 
-/* The next visit: *given is 1 and the record's number, the index in it and the position are written, or *given is 0 and they keep what they
- * held. *place moves past the visit. */
-void vektrid_visits_step(const uint8_t *file, size_t size, vektrid_place *place, uint32_t *given, uint32_t *record, uint32_t *index,
-                         int32_t *at_x, int32_t *at_y);
+/* The next visit: *given is 1, and the number of its record in the file, its index in that record and its position are written; or *given is
+ * 0 at the end, and those four keep what they held. *walk moves past the visit. */
+void vektrid_file_walk_step(const uint8_t *file, size_t size, vektrid_file_walk *walk, uint32_t *given, uint32_t *record_number,
+                            uint32_t *index, int32_t *at_x, int32_t *at_y);
 
 /* The start of a file's listing. The listing of a refused file is the one line `refused`, a space and the number. */
 void vektrid_listing_open(const uint8_t *file, size_t size, vektrid_cursor *cursor);
 
 /* The next piece of a listing: writes whole lines while the longest line, 46 bytes, has room, returns how many bytes it wrote, and moves
- * *cursor past them. 0 bytes into a buffer of 46 or more: the listing is whole. Bytes of the buffer past the piece keep their content. */
-size_t vektrid_listing_page(const uint8_t *file, size_t size, vektrid_cursor *cursor, uint8_t *out, size_t room);
+ * *cursor past them. 0 bytes into a buffer of 46 bytes or more: the listing has ended. Bytes of the buffer past the piece keep their content. */
+size_t vektrid_listing_piece(const uint8_t *file, size_t size, vektrid_cursor *cursor, uint8_t *out, size_t room);
 
 #ifdef __cplusplus
 }

@@ -187,7 +187,7 @@ class RefusalTable(unittest.TestCase):
 
 
 class RefusalOrder(unittest.TestCase):
-    """Where several refusals are due, the first of 01's order is given."""
+    """Where several refusals apply, the first of 01's order is given."""
 
     def test_query(self):
         # from the last test to the first: each line makes one thing more wrong
@@ -771,7 +771,7 @@ def header():
 class Interface(unittest.TestCase):
 
     KINDS = {'uint32_t': ctypes.c_uint32, 'uint64_t': ctypes.c_uint64, 'int32_t': ctypes.c_int32, 'size_t': ctypes.c_size_t, 'float': ctypes.c_float,
-             'double': ctypes.c_double, 'void': None, 'uint8_t': ctypes.c_uint8, 'vektrid_place': vektrid._Place, 'vektrid_cursor': vektrid._Cursor}
+             'double': ctypes.c_double, 'void': None, 'uint8_t': ctypes.c_uint8, 'vektrid_file_walk': vektrid._FileWalk, 'vektrid_cursor': vektrid._Cursor}
 
     def kind(self, declared):
         """The ctypes type of a parameter of the header."""
@@ -790,7 +790,7 @@ class Interface(unittest.TestCase):
 
     def test_structures(self):
         sizes = dict((name, int(size)) for size, name in re.findall(r'uint32_t words\[(\d+)\];\s*\} (\w+);', header()))
-        self.assertEqual(sizes, {'vektrid_place': ctypes.sizeof(vektrid._Place) // 4, 'vektrid_cursor': ctypes.sizeof(vektrid._Cursor) // 4})
+        self.assertEqual(sizes, {'vektrid_file_walk': ctypes.sizeof(vektrid._FileWalk) // 4, 'vektrid_cursor': ctypes.sizeof(vektrid._Cursor) // 4})
 
     def test_refusals_of_the_header(self):
         named = {name.replace('_', ''): int(number) for name, number in re.findall(r'VEKTRID_(\w+) = (\d+)', header())}

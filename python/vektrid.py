@@ -212,7 +212,7 @@ class FileVisit(NamedTuple):
 # ---- the library
 
 
-class _Place(ctypes.Structure):
+class _FileWalk(ctypes.Structure):
     _fields_ = [('words', ctypes.c_uint32 * 11)]
 
 
@@ -241,10 +241,10 @@ _CALLS = {
     'vektrid_point_singles': (_WORD, _PAIR + [_WORD, _TO_SINGLE, _TO_SINGLE]),
     'vektrid_position': (_WORD, [_SIGNED, _SIGNED] + 4 * [_WORD] + [_TO_SIGNED, _TO_SIGNED]),
     'vektrid_judge': (_WORD, _FILE),
-    'vektrid_visits_open': (_WORD, _FILE + [ctypes.POINTER(_Place)]),
-    'vektrid_visits_step': (None, _FILE + [ctypes.POINTER(_Place)] + 3 * [_TO_WORD] + 2 * [_TO_SIGNED]),
+    'vektrid_file_walk_open': (_WORD, _FILE + [ctypes.POINTER(_FileWalk)]),
+    'vektrid_file_walk_step': (None, _FILE + [ctypes.POINTER(_FileWalk)] + 3 * [_TO_WORD] + 2 * [_TO_SIGNED]),
     'vektrid_listing_open': (None, _FILE + [ctypes.POINTER(_Cursor)]),
-    'vektrid_listing_page': (_SIZE, _FILE + [ctypes.POINTER(_Cursor), ctypes.POINTER(ctypes.c_uint8), _SIZE]),
+    'vektrid_listing_piece': (_SIZE, _FILE + [ctypes.POINTER(_Cursor), ctypes.POINTER(ctypes.c_uint8), _SIZE]),
 }
 
 
@@ -594,7 +594,7 @@ class Region(collections.namedtuple('Region', 'left top width height')):
 
 
 def _chain_fault(number, file):
-    """Where on the chain of a refused file the refusal is due, for its message: the library has judged, and this looks for the place."""
+    """Where on the chain of a refused file the refusal applies, for its message: the library has judged, and this looks for the record."""
     records = len(file) // 32
     at, link, count, seen = 0, struct.unpack_from('<I', file)[0], 0, set()
     region = dict.fromkeys(Region._fields, 0)
@@ -636,16 +636,16 @@ def visits(file):
 
     The file is judged at once. Refused: as judge says.
     """
-    file, place = _content(file), _Place()
-    _accept_file(_library.vektrid_visits_open(file, len(file), place), file)
-    return _visits_from(file, place)
+    file, walk = _content(file), _FileWalk()
+    _accept_file(_library.vektrid_file_walk_open(file, len(file), walk), file)
+    return _visits_from(file, walk)
 
 
-def _visits_from(file, place):
+def _visits_from(file, walk):
     given, record, index = (ctypes.c_uint32() for _ in range(3))
     x, y = ctypes.c_int32(), ctypes.c_int32()
     while True:
-        _library.vektrid_visits_step(file, len(file), place, given, record, index, x, y)
+        _library.vektrid_file_walk_step(file, len(file), walk, given, record, index, x, y)
         if not given.value:
             return
         yield FileVisit(record.value, index.value, x.value, y.value)
@@ -668,9 +668,9 @@ def listing_pieces(file, room=65536):
 
 
 def _pieces_from(file, cursor, room):
-    page = (ctypes.c_uint8 * room)()
+    piece = (ctypes.c_uint8 * room)()
     while True:
-        written = _library.vektrid_listing_page(file, len(file), cursor, page, room)
+        written = _library.vektrid_listing_piece(file, len(file), cursor, piece, room)
         if not written:
             return
-        yield ctypes.string_at(page, written)
+        yield ctypes.string_at(piece, written)

@@ -7,7 +7,7 @@ use std::process::ExitCode;
 /// Names another folder that holds the archive.
 const FOLDER_VARIABLE: &str = "VEKTRID_ARCHIVE_DIR";
 
-const ARCHIVE: &str = "libexports.a";
+const ARCHIVE: &str = "libvektrid.a";
 
 fn main() -> ExitCode {
     println!("cargo:rerun-if-env-changed={FOLDER_VARIABLE}");
@@ -23,7 +23,7 @@ fn main() -> ExitCode {
         return ExitCode::FAILURE;
     }
     println!("cargo:rustc-link-search=native={}", folder.display());
-    println!("cargo:rustc-link-lib=static=exports");
+    println!("cargo:rustc-link-lib=static=vektrid");
     ExitCode::SUCCESS
 }
 

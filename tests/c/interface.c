@@ -376,7 +376,7 @@ static void put_example(void) {
 
 static const char *const example_listing = "record visit x y\n1 0 -500 0\n1 1 0 400\n1 2 -250 600\n1 3 250 200\n";
 
-/* The example with one field changed, and its answer; where that is a refusal, opening the file leaves the place as it was. */
+/* The example with one field changed, and its answer; where that is a refusal, opening the file leaves the walk as it was. */
 struct change {
     size_t at;
     uint32_t value;
@@ -412,14 +412,14 @@ static const struct change changes[] = {
 
 static void files(void) {
     for (size_t i = 0; i < sizeof changes / sizeof changes[0]; i++) {
-        vektrid_place place;
+        vektrid_file_walk walk;
         uint32_t answer = changes[i].answer;
-        keep(place.words, 11);
+        keep(walk.words, 11);
         put_example();
         put(changes[i].at, changes[i].value);
         refused[answer] += (unsigned)check(vektrid_judge(file, changes[i].size) == answer, "the file gets its answer", __FILE__, __LINE__);
-        CHECK(vektrid_visits_open(file, changes[i].size, &place) == answer);
-        CHECK(answer == 0 || all_kept(place.words, 11));
+        CHECK(vektrid_file_walk_open(file, changes[i].size, &walk) == answer);
+        CHECK(answer == 0 || all_kept(walk.words, 11));
     }
 }
 
@@ -443,51 +443,51 @@ static void order_of_files(void) {
 
 static void visits(void) {
     static const int32_t at[4][2] = {{-500, 0}, {0, 400}, {-250, 600}, {250, 200}};
-    vektrid_place place;
+    vektrid_file_walk walk;
     uint32_t given = KEPT, record = KEPT, index = KEPT;
     int32_t x = 77, y = 77;
     put_example();
-    CHECK(vektrid_visits_open(file, 64, &place) == 0);
+    CHECK(vektrid_file_walk_open(file, 64, &walk) == 0);
     for (uint32_t n = 0; n < 7; n++) {
         uint32_t last = n < 4 ? n : 3; /* the visit given last, which a step at the end leaves there */
-        vektrid_place copy = place;    /* a copy goes on as the place itself */
-        vektrid_visits_step(file, 64, &place, &given, &record, &index, &x, &y);
+        vektrid_file_walk copy = walk;    /* a copy goes on as the walk itself */
+        vektrid_file_walk_step(file, 64, &walk, &given, &record, &index, &x, &y);
         CHECK(given == (n < 4 ? 1u : 0u) && record == 1 && index == last && x == at[last][0] && y == at[last][1]);
-        vektrid_visits_step(file, 64, &copy, &given, &record, &index, &x, &y);
+        vektrid_file_walk_step(file, 64, &copy, &given, &record, &index, &x, &y);
         CHECK(given == (n < 4 ? 1u : 0u) && record == 1 && index == last && x == at[last][0] && y == at[last][1]);
     }
 }
 
 static void visits_of_none(void) {
-    vektrid_place place;
+    vektrid_file_walk walk;
     uint32_t out[3]; /* given, record, index */
     int32_t x = 77, y = 77;
     keep(out, 3);
     put_example();
     put(0, 0); /* a chain without records */
-    CHECK(vektrid_visits_open(file, 64, &place) == 0);
-    vektrid_visits_step(file, 64, &place, &out[0], &out[1], &out[2], &x, &y);
+    CHECK(vektrid_file_walk_open(file, 64, &walk) == 0);
+    vektrid_file_walk_step(file, 64, &walk, &out[0], &out[1], &out[2], &x, &y);
     CHECK(out[0] == 0 && all_kept(out + 1, 2) && x == 77 && y == 77);
 }
 
-/* The whole listing through pages of some room: each page within its room, whole lines, and nothing written past them. */
+/* The whole listing in pieces of some room: each piece within its room, whole lines, and nothing written past them. */
 static size_t listing(size_t size, size_t room, char *text, size_t text_room) {
-    uint8_t page[128];
+    uint8_t piece[128];
     vektrid_cursor cursor;
     size_t length = 0;
     vektrid_listing_open(file, size, &cursor);
     for (;;) {
-        memset(page, BYTE_KEPT, sizeof page);
-        size_t written = vektrid_listing_page(file, size, &cursor, page, room);
+        memset(piece, BYTE_KEPT, sizeof piece);
+        size_t written = vektrid_listing_piece(file, size, &cursor, piece, room);
         CHECK(written <= room && length + written < text_room);
         if (written > room || length + written >= text_room)
             break;
-        for (size_t i = written; i < sizeof page; i++)
-            CHECK(page[i] == BYTE_KEPT);
+        for (size_t i = written; i < sizeof piece; i++)
+            CHECK(piece[i] == BYTE_KEPT);
         if (written == 0)
             break;
-        CHECK(page[written - 1] == '\n');
-        memcpy(text + length, page, written);
+        CHECK(piece[written - 1] == '\n');
+        memcpy(text + length, piece, written);
         length += written;
     }
     text[length] = 0;
@@ -517,39 +517,39 @@ static void listings(void) {
 
 /* Less room than the longest line: nothing is written, and the listing can go on with more. */
 static void listing_without_room(void) {
-    uint8_t page[64];
+    uint8_t piece[64];
     vektrid_cursor cursor;
     put_example();
     vektrid_listing_open(file, 64, &cursor);
-    memset(page, BYTE_KEPT, sizeof page);
-    CHECK(vektrid_listing_page(file, 64, &cursor, page, 45) == 0);
-    CHECK(vektrid_listing_page(file, 64, &cursor, page, 0) == 0);
-    for (size_t i = 0; i < sizeof page; i++)
-        CHECK(page[i] == BYTE_KEPT);
-    CHECK(vektrid_listing_page(file, 64, &cursor, page, 46) > 0 && memcmp(page, "record visit x y\n", 17) == 0);
+    memset(piece, BYTE_KEPT, sizeof piece);
+    CHECK(vektrid_listing_piece(file, 64, &cursor, piece, 45) == 0);
+    CHECK(vektrid_listing_piece(file, 64, &cursor, piece, 0) == 0);
+    for (size_t i = 0; i < sizeof piece; i++)
+        CHECK(piece[i] == BYTE_KEPT);
+    CHECK(vektrid_listing_piece(file, 64, &cursor, piece, 46) > 0 && memcmp(piece, "record visit x y\n", 17) == 0);
 }
 
-/* Places and cursors of any content are answered: no step writes past its words, no page past its room. */
+/* File walks and cursors of any content are answered: no step writes past its words, no piece past its room. */
 static void any_content(void) {
     static const uint32_t contents[4] = {0, 1, KEPT, LAST};
     put_example();
     for (int n = 0; n < 4; n++) {
-        uint8_t page[64];
+        uint8_t piece[64];
         uint32_t given = KEPT, record, index;
         int32_t x, y;
-        vektrid_place place;
+        vektrid_file_walk walk;
         vektrid_cursor cursor;
         for (int i = 0; i < 11; i++)
-            place.words[i] = contents[n];
+            walk.words[i] = contents[n];
         for (int i = 0; i < 13; i++)
             cursor.words[i] = contents[n];
-        vektrid_visits_step(file, 64, &place, &given, &record, &index, &x, &y);
+        vektrid_file_walk_step(file, 64, &walk, &given, &record, &index, &x, &y);
         CHECK(given == 0 || given == 1);
-        memset(page, BYTE_KEPT, sizeof page);
-        size_t written = vektrid_listing_page(file, 64, &cursor, page, 50);
+        memset(piece, BYTE_KEPT, sizeof piece);
+        size_t written = vektrid_listing_piece(file, 64, &cursor, piece, 50);
         CHECK(written <= 50);
-        for (size_t i = written; i < sizeof page; i++)
-            CHECK(page[i] == BYTE_KEPT);
+        for (size_t i = written; i < sizeof piece; i++)
+            CHECK(piece[i] == BYTE_KEPT);
     }
 }
 

@@ -1,12 +1,13 @@
-// The C interface: nothing but calls. Numbers and slices only; an answer is 0 or the refusal's number, and values go through lent words,
-// which a refused call leaves as they were. include/vektrid.h has the declarations.
-mod answers;
-mod cells;
+// The C interface: nothing but calls. Parameters are numbers, slices and lent words; an answer is 0 or the refusal's number, and values
+// go through lent words, which a refused call leaves as they were. include/vektrid.h declares the calls under the same names. All of
+// them stand in this crate, since `rt staticlib` puts only a crate's own functions under their C names.
 mod file_walks;
 mod fills;
+mod judging;
 mod listings;
 mod pairs;
 mod points;
 mod positions;
+mod query;
 mod units;
 mod walks;

@@ -2,9 +2,8 @@
 use stage::Placed;
 use stage::Region;
 ghost use mathlib.Core.Path.{_≡_};
-ghost use Rattle.stage.specs.Region.{position-outcome};
-ghost use Rattle.vektrid.specs.Answers.{answer, handed};
-ghost use Rattle.vektrid.specs.Calls.{region-of};
+ghost use Rattle.answers.specs.Answers.{answer-number, part-left};
+ghost use Rattle.vektrid.specs.Regions.{region-position-outcome};
 
 // Where the point with coordinate words x and y lies in a region.
 #[no_mangle]
@@ -15,12 +14,12 @@ pub extern "C" fn vektrid_position(
     height: u32,
     x: u32,
     y: u32,
-    px: &mut i32,
-    py: &mut i32,
+    at_x: &mut i32,
+    at_y: &mut i32,
 ) -> u32
-    ensures answer { λ r. ⌜ r ≡ answer (position-outcome (region-of left top width height) x y) ⌝ }
-    ensures x { λ _. ⌜ now (px .exit) ≡ handed (position-outcome (region-of left top width height) x y) (λ p. p .x) (now (px .entry)) ⌝ }
-    ensures y { λ _. ⌜ now (py .exit) ≡ handed (position-outcome (region-of left top width height) x y) (λ p. p .y) (now (py .entry)) ⌝ }
+    ensures answer { λ r. ⌜ r ≡ answer-number (region-position-outcome left top width height x y) ⌝ }
+    ensures x { λ _. ⌜ now («at_x» .exit) ≡ part-left (region-position-outcome left top width height x y) (λ p. p .x) (now («at_x» .entry)) ⌝ }
+    ensures y { λ _. ⌜ now («at_y» .exit) ≡ part-left (region-position-outcome left top width height x y) (λ p. p .y) (now («at_y» .entry)) ⌝ }
 {
     let region = Region {
         left,
@@ -32,10 +31,10 @@ pub extern "C" fn vektrid_position(
     match placed {
         Placed::Refused(why) => why.number(),
         Placed::At(at) => {
-            let ax = at.x;
-            let ay = at.y;
-            *px = ax;
-            *py = ay;
+            let x_there = at.x;
+            let y_there = at.y;
+            *at_x = x_there;
+            *at_y = y_there;
             0
         }
     }

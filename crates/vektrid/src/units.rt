@@ -1,14 +1,13 @@
-// Unit numbers: of a word, and those of a point and of a step as two singles.
-use crate::pairs::pair_answer;
-use plan::Plan;
+// Unit numbers: of a word, and as singles those of a point and of a step.
+use pair_calls::pair_answer;
+use pair_calls::pair_plan;
 use plan::Shift;
-use plan::Walk;
-use unit::SinglesStep;
 ghost use mathlib.Core.Path.{_≡_};
 ghost use Rattle.unit.specs.Word.{double, single};
-ghost use Rattle.vektrid.specs.Answers.{answer, handed, step-words, told};
-ghost use Rattle.vektrid.specs.Calls.{singles-outcome, singles, step-singles-outcome};
+ghost use Rattle.answers.specs.Answers.{answer-number, part-left, step-words, left-in};
+ghost use Rattle.pair_calls.specs.Calls.{singles-outcome, two-singles, step-singles-outcome};
 
+// A word divided by 2^32, exactly.
 #[no_mangle]
 pub extern "C" fn vektrid_double(word: u32) -> f64
     ensures { λ r. ⌜ r ≡ double word ⌝ }
@@ -16,6 +15,7 @@ pub extern "C" fn vektrid_double(word: u32) -> f64
     unit::double(word)
 }
 
+// The largest single that is not above a word divided by 2^32.
 #[no_mangle]
 pub extern "C" fn vektrid_single(word: u32) -> f32
     ensures { λ r. ⌜ r ≡ single word ⌝ }
@@ -27,23 +27,29 @@ pub extern "C" fn vektrid_single(word: u32) -> f32
 #[no_mangle]
 pub extern "C" fn vektrid_point_singles(
     words: &[u32],
-    sx: u32,
-    sy: u32,
+    shift_x: u32,
+    shift_y: u32,
     index: u32,
     x: &mut f32,
     y: &mut f32,
 ) -> u32
-    ensures answer { λ r. ⌜ r ≡ answer (singles-outcome (now (words .entry)) sx sy index) ⌝ }
-    ensures x { λ _. ⌜ now (x .exit) ≡ handed (singles-outcome (now (words .entry)) sx sy index) (λ p. p .x) (now (x .entry)) ⌝ }
-    ensures y { λ _. ⌜ now (y .exit) ≡ handed (singles-outcome (now (words .entry)) sx sy index) (λ p. p .y) (now (y .entry)) ⌝ }
+    ensures answer { λ r. ⌜ r ≡ answer-number (singles-outcome (now (words .entry)) «shift_x» «shift_y» index) ⌝ }
+    ensures x { λ _. ⌜ now (x .exit) ≡ part-left (singles-outcome (now (words .entry)) «shift_x» «shift_y» index) (λ p. p .x) (now (x .entry)) ⌝ }
+    ensures y { λ _. ⌜ now (y .exit) ≡ part-left (singles-outcome (now (words .entry)) «shift_x» «shift_y» index) (λ p. p .y) (now (y .entry)) ⌝ }
 {
     let answer = pair_answer(words);
     if answer != 0 {
         return answer;
     }
-    let loaded = Plan::load(words);
-    let plan = loaded.plan;
-    let singles = unit::singles_at(plan, Shift { x: sx, y: sy }, index);
+    let plan = pair_plan(words);
+    let singles = unit::singles_at(
+        plan,
+        Shift {
+            x: shift_x,
+            y: shift_y,
+        },
+        index,
+    );
     *x = singles.x;
     *y = singles.y;
     0
@@ -53,8 +59,8 @@ pub extern "C" fn vektrid_point_singles(
 #[no_mangle]
 pub extern "C" fn vektrid_walk_step_singles(
     words: &[u32],
-    sx: u32,
-    sy: u32,
+    shift_x: u32,
+    shift_y: u32,
     next: &mut u32,
     left: &mut u64,
     given: &mut u32,
@@ -62,35 +68,29 @@ pub extern "C" fn vektrid_walk_step_singles(
     x: &mut f32,
     y: &mut f32,
 ) -> u32
-    ensures answer { λ r. ⌜ r ≡ answer (step-singles-outcome (now (words .entry)) sx sy (now (next .entry)) (now (left .entry))) ⌝ }
+    ensures answer { λ r. ⌜
+        r ≡ answer-number (step-singles-outcome (now (words .entry)) «shift_x» «shift_y» (now (next .entry)) (now (left .entry))) ⌝ }
     ensures words { λ _. ⌜
-        step-words (now (next .exit)) (now (left .exit)) (now (given .exit)) (now (index .exit)) (singles (now (x .exit)) (now (y .exit)))
-        ≡ told (step-singles-outcome (now (words .entry)) sx sy (now (next .entry)) (now (left .entry))) (λ v. v .index) (λ v. v .at)
-        (step-words (now (next .entry)) (now (left .entry)) (now (given .entry)) (now (index .entry)) (singles (now (x .entry)) (now (y .entry)))) ⌝ }
+        step-words (now (next .exit)) (now (left .exit)) (now (given .exit)) (now (index .exit)) (two-singles (now (x .exit)) (now (y .exit)))
+        ≡ left-in (step-singles-outcome (now (words .entry)) «shift_x» «shift_y» (now (next .entry)) (now (left .entry))) (λ v. v .index) (λ v. v .at)
+        (step-words (now (next .entry)) (now (left .entry)) (now (given .entry)) (now (index .entry)) (two-singles (now (x .entry)) (now (y .entry)))) ⌝ }
 {
-    let answer = pair_answer(words);
-    if answer != 0 {
-        return answer;
-    }
-    let walk = Walk {
-        next: *next,
-        left: *left,
-    };
-    let loaded = Plan::load(words);
-    let plan = loaded.plan;
-    let stepped = unit::step_singles(walk, plan, Shift { x: sx, y: sy });
-    let after = stepped.walk;
-    *next = after.next;
-    *left = after.left;
-    let step = stepped.step;
-    let SinglesStep::Visited(visit) = step else {
-        *given = 0;
-        return 0;
-    };
-    *given = 1;
-    *index = visit.index;
-    let at = visit.at;
-    *x = at.x;
-    *y = at.y;
-    0
+    let stepped = pair_calls::step_singles(
+        words,
+        shift_x,
+        shift_y,
+        *next,
+        *left,
+        *given,
+        *index,
+        *x,
+        *y,
+    );
+    *next = stepped.next;
+    *left = stepped.left;
+    *given = stepped.given;
+    *index = stepped.index;
+    *x = stepped.x;
+    *y = stepped.y;
+    stepped.answer
 }

@@ -12,8 +12,8 @@ mod files;
 mod fills;
 mod limits;
 mod openings;
-mod pages;
 mod pairs;
+mod pieces;
 mod points;
 mod positions;
 mod queries;
@@ -77,5 +77,5 @@ fn all(seed: u64) -> Result<(), String> {
     compare::<units::Unit>(seed)?;
     compare::<positions::PositionIn>(seed)?;
     compare::<files::RegionFile>(seed)?;
-    compare::<pages::Pages>(seed)
+    compare::<pieces::Pieces>(seed)
 }

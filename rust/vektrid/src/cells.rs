@@ -23,9 +23,8 @@ pub struct Cell {
 }
 
 impl Pair {
-    /// The one index of the block whose point lies in the cell. Refused under 2, 4, 5, 6, 7 or 3,
-    /// in this order. The pair needs no check
-    /// before.
+    /// The one index of the block whose point lies in the cell, or the first refusal that applies,
+    /// in the order 2, 4, 5, 6, 7, 3. The pair need not be checked before.
     ///
     /// ```
     /// use vektrid::{Cell, Pair, Refusal, Shift};
@@ -41,7 +40,7 @@ impl Pair {
     }
 }
 
-/// [`Pair::query`] for any number of words. Refused under 1 first.
+/// [`Pair::query`] for any number of words: refusal 1 comes before the others.
 pub fn query_words(words: &[u32], shift: Shift, level: u32, cell: Cell) -> Result<u32, Refusal> {
     let Cell { m, a, column, row, block } = cell;
     let (mut index, mut j) = (0, 0);

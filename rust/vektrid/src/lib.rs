@@ -52,7 +52,7 @@ pub use listing::{listing, Cursor, Listing, LONGEST_LINE};
 pub use pair::{check_words, standard_words, Pair};
 pub use points::{fill_words, point_words, standard_point, Point, Shift};
 pub use refusal::Refusal;
-pub use region_file::{judge, visits, FileVisit, Place, Visits};
+pub use region_file::{judge, visits, FileVisit, FileWalk, Visits};
 pub use stage::{Position, Region};
 pub use unit::{double, point_singles_words, single, Singles};
 pub use walk::{SinglesVisit, Steps, Visit, Walk};

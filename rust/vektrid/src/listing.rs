@@ -6,22 +6,22 @@ use crate::raw;
 
 pub use crate::raw::Cursor;
 
-/// The length of the longest line, line feed included. A page needs room for one.
+/// The length of the longest line, line feed included. A piece needs room for one.
 pub const LONGEST_LINE: usize = 46;
 
-/// The room of the pages that the iterator gives.
-const PAGE: usize = 4_096;
+/// The room of the pieces that the iterator gives.
+const PIECE: usize = 4_096;
 
-/// The listing of a region file, page by page.
+/// The listing of a region file, piece by piece.
 ///
-/// As an iterator it gives pages of whole lines. The listing of a refused file is the one line
+/// As an iterator it gives pieces of whole lines. The listing of a refused file is the one line
 /// `refused`, a space and the number.
 ///
 /// ```
 /// use vektrid::Listing;
 ///
-/// let pages: Vec<Vec<u8>> = Listing::open(&[0; 40]).collect();
-/// assert_eq!(pages, [b"refused 11\n"]);
+/// let pieces: Vec<Vec<u8>> = Listing::open(&[0; 40]).collect();
+/// assert_eq!(pieces, [b"refused 11\n"]);
 /// ```
 #[derive(Clone, Debug)]
 pub struct Listing<'a> {
@@ -44,20 +44,19 @@ impl<'a> Listing<'a> {
         Listing { file, cursor }
     }
 
-    /// The cursor behind the last page given, for [`Listing::at`].
+    /// The cursor past the last piece given, for [`Listing::at`].
     pub fn cursor(&self) -> Cursor {
         self.cursor
     }
 
     /// Writes whole lines at the start of the buffer while the longest line has room, and says how
-    /// many bytes that were. 0 bytes into a
-    /// buffer of [`LONGEST_LINE`] or more: the listing is whole. Bytes of the buffer past the page
-    /// keep their content.
-    pub fn page(&mut self, buffer: &mut [u8]) -> usize {
+    /// many bytes those are. 0 bytes into a buffer of [`LONGEST_LINE`] or more: the listing has
+    /// ended. Bytes of the buffer past the piece keep their content.
+    pub fn piece(&mut self, buffer: &mut [u8]) -> usize {
         // SAFETY: two lent slices with their lengths, the written one lent to us alone, and a
         // field.
         unsafe {
-            raw::vektrid_listing_page(
+            raw::vektrid_listing_piece(
                 self.file.as_ptr(),
                 self.file.len(),
                 &mut self.cursor,
@@ -72,14 +71,14 @@ impl Iterator for Listing<'_> {
     type Item = Vec<u8>;
 
     fn next(&mut self) -> Option<Vec<u8>> {
-        let mut page = vec![0; PAGE];
-        let length = self.page(&mut page);
-        page.truncate(length);
-        (length > 0).then_some(page)
+        let mut piece = vec![0; PIECE];
+        let length = self.piece(&mut piece);
+        piece.truncate(length);
+        (length > 0).then_some(piece)
     }
 }
 
-/// Behind a whole listing stands no more text.
+/// After its end a listing gives no more text.
 impl FusedIterator for Listing<'_> {}
 
 /// The whole listing of a file.

@@ -35,7 +35,7 @@ impl Pair {
         point_words(self.words(), shift, index).expect("a pair has 64 words")
     }
 
-    /// Writes the points of the indexes from `start` on into every place of two buffers. Refused
+    /// Writes the points of the indexes from `start` on into every word of two buffers. Refused
     /// under 8 or 9, and then nothing is written.
     ///
     /// ```

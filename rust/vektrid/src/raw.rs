@@ -4,15 +4,15 @@
 //! aligned memory of its type, that each buffer has the length given beside it, and that what it
 //! writes overlaps nothing else that is lent to it.
 
-/// A place among the visits of a region file (`vektrid_place`). Any content is answered.
+/// A walk among the visits of a region file (`vektrid_file_walk`). Every content is answered.
 #[repr(C)]
 #[derive(Clone, Copy, Debug, PartialEq, Eq, Hash)]
-pub struct Place {
+pub struct FileWalk {
     /// Words that only the library reads.
     pub words: [u32; 11],
 }
 
-/// A cursor in the listing of a region file (`vektrid_cursor`). Any content is answered.
+/// A cursor in the listing of a region file (`vektrid_cursor`). Every content is answered.
 #[repr(C)]
 #[derive(Clone, Copy, Debug, PartialEq, Eq, Hash)]
 pub struct Cursor {
@@ -140,16 +140,16 @@ extern "C" {
     /// Judges a region file.
     pub fn vektrid_judge(file: *const u8, size: usize) -> u32;
 
-    /// The place before the first visit of a file.
-    pub fn vektrid_visits_open(file: *const u8, size: usize, place: *mut Place) -> u32;
+    /// The walk before the first visit of a file.
+    pub fn vektrid_file_walk_open(file: *const u8, size: usize, walk: *mut FileWalk) -> u32;
 
     /// The next visit of a file.
-    pub fn vektrid_visits_step(
+    pub fn vektrid_file_walk_step(
         file: *const u8,
         size: usize,
-        place: *mut Place,
+        walk: *mut FileWalk,
         given: *mut u32,
-        record: *mut u32,
+        record_number: *mut u32,
         index: *mut u32,
         at_x: *mut i32,
         at_y: *mut i32,
@@ -159,7 +159,7 @@ extern "C" {
     pub fn vektrid_listing_open(file: *const u8, size: usize, cursor: *mut Cursor);
 
     /// The next piece of a listing.
-    pub fn vektrid_listing_page(
+    pub fn vektrid_listing_piece(
         file: *const u8,
         size: usize,
         cursor: *mut Cursor,

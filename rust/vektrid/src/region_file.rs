@@ -5,7 +5,7 @@ use std::iter::FusedIterator;
 use crate::raw;
 use crate::refusal::{judged, Refusal};
 
-pub use crate::raw::Place;
+pub use crate::raw::FileWalk;
 
 /// A visit of a region file.
 #[derive(Clone, Copy, Debug, PartialEq, Eq, Hash)]
@@ -20,8 +20,8 @@ pub struct FileVisit {
     pub y: i32,
 }
 
-/// Judges a whole file. Refused under 11, 2, 12, then at each link of the chain under 13, 14, 10 or
-/// 15.
+/// Judges a whole file. The first refusal that applies is given, in the order 11, 2, 12, and then
+/// at each link of the chain 13, 14, 10, 15.
 ///
 /// ```
 /// use vektrid::{judge, Refusal};
@@ -47,29 +47,29 @@ pub fn judge(file: &[u8]) -> Result<(), Refusal> {
 /// # Ok::<(), Refusal>(())
 /// ```
 pub fn visits(file: &[u8]) -> Result<Visits<'_>, Refusal> {
-    let mut place = Place { words: [0; 11] };
+    let mut walk = FileWalk { words: [0; 11] };
     // SAFETY: a lent slice with its length, and a variable.
-    judged(unsafe { raw::vektrid_visits_open(file.as_ptr(), file.len(), &mut place) })?;
-    Ok(Visits { file, place })
+    judged(unsafe { raw::vektrid_file_walk_open(file.as_ptr(), file.len(), &mut walk) })?;
+    Ok(Visits { file, walk })
 }
 
 /// The visits of a region file, given by [`visits`].
 #[derive(Clone, Debug)]
 pub struct Visits<'a> {
     file: &'a [u8],
-    place: Place,
+    walk: FileWalk,
 }
 
 impl<'a> Visits<'a> {
-    /// Goes on at a place that was kept. A place of another file, or one made by hand, gives some
+    /// Goes on from a walk that was kept. A walk in another file, or one made by hand, gives some
     /// visits or none.
-    pub fn at(file: &'a [u8], place: Place) -> Visits<'a> {
-        Visits { file, place }
+    pub fn at(file: &'a [u8], walk: FileWalk) -> Visits<'a> {
+        Visits { file, walk }
     }
 
-    /// The place behind the last visit given, for [`Visits::at`].
-    pub fn place(&self) -> Place {
-        self.place
+    /// The walk past the last visit given, for [`Visits::at`].
+    pub fn walk(&self) -> FileWalk {
+        self.walk
     }
 }
 
@@ -81,10 +81,10 @@ impl Iterator for Visits<'_> {
         let mut visit = FileVisit { record: 0, index: 0, x: 0, y: 0 };
         // SAFETY: a lent slice with its length; the others are variables and fields, all apart.
         unsafe {
-            raw::vektrid_visits_step(
+            raw::vektrid_file_walk_step(
                 self.file.as_ptr(),
                 self.file.len(),
-                &mut self.place,
+                &mut self.walk,
                 &mut given,
                 &mut visit.record,
                 &mut visit.index,
@@ -96,5 +96,5 @@ impl Iterator for Visits<'_> {
     }
 }
 
-/// After the end a step gives the end again, whatever the place was.
+/// After the end a step gives the end again, whatever the walk was.
 impl FusedIterator for Visits<'_> {}

@@ -3,7 +3,7 @@
 
 use std::mem::size_of;
 
-use vektrid::raw::{Cursor, Place};
+use vektrid::raw::{Cursor, FileWalk};
 use vektrid::Refusal;
 
 const HEADER: &str = include_str!(concat!(env!("CARGO_MANIFEST_DIR"), "/../../include/vektrid.h"));
@@ -53,7 +53,7 @@ fn rust_type(c_type: &str) -> &'static str {
         "size_t" => "usize",
         "float" => "f32",
         "double" => "f64",
-        "vektrid_place" => "Place",
+        "vektrid_file_walk" => "FileWalk",
         "vektrid_cursor" => "Cursor",
         other => panic!("a type that raw.rs does not have: {other}"),
     }
@@ -79,7 +79,7 @@ fn declarations_are_those_of_the_header() {
 
 #[test]
 fn structures_have_the_words_of_the_header() {
-    for (name, size) in [("place", size_of::<Place>()), ("cursor", size_of::<Cursor>())] {
+    for (name, size) in [("file_walk", size_of::<FileWalk>()), ("cursor", size_of::<Cursor>())] {
         let start = format!("typedef struct vektrid_{name} {{\n    uint32_t words[{}];", size / 4);
         assert!(header().contains(&start));
     }

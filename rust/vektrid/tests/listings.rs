@@ -1,4 +1,4 @@
-//! The example listing of document 01, its visits, and its pages.
+//! The example listing of document 01, its visits, and its pieces.
 
 mod common;
 
@@ -19,8 +19,8 @@ fn listing_of_the_example() {
 #[test]
 fn visits_of_the_example() {
     let file = example();
-    let places = [(-500, 0), (0, 400), (-250, 600), (250, 200)];
-    let expected = (0..).zip(places).map(|(index, (x, y))| FileVisit { record: 1, index, x, y });
+    let positions = [(-500, 0), (0, 400), (-250, 600), (250, 200)];
+    let expected = (0..).zip(positions).map(|(index, (x, y))| FileVisit { record: 1, index, x, y });
     assert!(visits(&file).unwrap().eq(expected));
 }
 
@@ -37,29 +37,29 @@ fn chain_without_visits_has_only_the_header() {
 }
 
 #[test]
-fn places_and_cursors_can_be_kept() {
+fn file_walks_and_cursors_can_be_kept() {
     let file = example();
     let mut first = visits(&file).unwrap();
     first.next();
-    let kept: Vec<FileVisit> = Visits::at(&file, first.place()).collect();
+    let kept: Vec<FileVisit> = Visits::at(&file, first.walk()).collect();
     assert_eq!(kept, first.collect::<Vec<_>>());
     assert_eq!(kept.len(), 3);
     let mut first = Listing::open(&file);
-    let mut page = [0; LONGEST_LINE];
-    let length = first.page(&mut page);
+    let mut piece = [0; LONGEST_LINE];
+    let length = first.piece(&mut piece);
     let rest = Listing::at(&file, first.cursor()).flatten();
-    let joined: Vec<u8> = page[..length].iter().copied().chain(rest).collect();
+    let joined: Vec<u8> = piece[..length].iter().copied().chain(rest).collect();
     assert_eq!(joined, EXAMPLE.as_bytes());
 }
 
-/// A listing of 4,096 visits takes many pages, and the pages make the listing.
+/// A listing of 4,096 visits takes many pieces, and the pieces make the listing.
 #[test]
-fn long_listing_comes_in_pages() {
+fn long_listing_comes_in_pieces() {
     let file = example_with(COUNT, 4_096);
-    let pages: Vec<Vec<u8>> = Listing::open(&file).collect();
-    assert!(pages.len() > 10);
-    assert!(pages.iter().all(|page| page.ends_with(b"\n")));
-    let text = pages.concat();
+    let pieces: Vec<Vec<u8>> = Listing::open(&file).collect();
+    assert!(pieces.len() > 10);
+    assert!(pieces.iter().all(|piece| piece.ends_with(b"\n")));
+    let text = pieces.concat();
     assert_eq!(text, listing(&file));
     let lines: Vec<&[u8]> = text.split(|&byte| byte == b'\n').collect();
     assert_eq!(lines.len(), 4_098);

@@ -2,8 +2,8 @@
 -- Assumes nothing.
 use Rattle.net.specs.Sequence.{point}
 use Rattle.plan.specs.Pair.{sequence}
-use Rattle.vektrid.proofs.Outcomes.{refused-answer, refused-leaves, accepted-answer, accepted-hands}
-use Rattle.vektrid.proofs.Loading.{stops, gives}
+use Rattle.answers.proofs.Outcomes.{refused-answer, refused-leaves, accepted-answer, accepted-hands}
+use Rattle.pair_calls.proofs.Loading.{stops, gives}
 use borrow.Author.Needs.{needs}
 use Rattle.vektrid.proofs.points.vektrid_point.Statement.{statement}
 use Rattle.vektrid.proofs.points.vektrid_point.Tie as tie
@@ -16,21 +16,21 @@ returns c =
     let e = stops (c .before .before .before .args .words .now) (c .before .pair-answer .ensures) _ (c .if1 .taken) in
     (refused-answer e, (refused-leaves e (λ p. p .0) _, refused-leaves e (λ p. p .1) _))
 
-load-requires : tie.Need-load-requires
-load-requires c κs = search needs
+pair-plan-requires : tie.Need-pair-plan-requires
+pair-plan-requires c κs = search needs
 
 point-requires : tie.Need-point-requires
 point-requires c κs = search needs
 
 returns-2 : tie.Need-returns-2
 returns-2 c =
-    let l = c .before .before in
+    let l = c .before in
     let a = l .before .before .before .before .args in
     let n = l .before .before .pair-answer .ensures in
-    let e = gives (a .words .now) n (l .before .if1 .left) (λ P. point (sequence P (record { x = a .sx; y = a .sy })) (a .index))
-    (l .load .ensures .1) (c .point .ensures) in
+    let e = gives (a .words .now) n (l .before .if1 .left) (λ P. point (sequence P (record { x = a .shift-x; y = a .shift-y })) (a .index))
+    (l .pair-plan .ensures) (c .point .ensures) in
     (accepted-answer e, (accepted-hands e (λ p. p .0) _, accepted-hands e (λ p. p .1) _))
 
 pub vektrid-point-spec : {M : Type 1} → statement M
 vektrid-point-spec =
-    tie.close (tie.spec pair-answer-requires returns load-requires point-requires returns-2)
+    tie.close (tie.spec pair-answer-requires returns pair-plan-requires point-requires returns-2)

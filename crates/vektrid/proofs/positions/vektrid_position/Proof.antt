@@ -1,25 +1,35 @@
--- `positions::vektrid_position`: the region is made of edges that read back from their bits.
+-- `positions::vektrid_position` meets its contract.
 -- Assumes nothing.
 use mathlib.Core.Path.{_≡_, sym, ap, ap₂, _∙_}
+use Prim.Native.Nat.{ℕ}
+use borrow.Author.Needs.{needs}
 use lib.IntN.{ℤ}
 use mir.Syntax.{w32}
+use mir.Val.{SFits, toZ, ofZ}
 use mir.ValLaws.{toZ-ofZ}
-use Rattle.stage.specs.Region.{position-outcome, of-placed}
-use Rattle.vektrid.specs.Calls.{region-of}
-use Rattle.vektrid.proofs.Outcomes.{refused-answer, refused-leaves, accepted-answer, accepted-hands}
-use borrow.Author.Needs.{needs}
+use Rattle.stage.specs.Region.{of-placed}
+use Rattle.vektrid.specs.Regions.{region-position-outcome}
+use Rattle.answers.proofs.Outcomes.{refused-answer, refused-leaves, accepted-answer, accepted-hands}
 use Rattle.vektrid.proofs.positions.vektrid_position.Statement.{statement}
 use Rattle.vektrid.proofs.positions.vektrid_position.Tie as tie
 
+-- a number as the machine stores it and reads it back
+abbrev read : ℤ → ℤ
+read z = toZ w32 (ofZ w32 z)
+
+-- a region by its edges, stored and read back
+region-read : (left top : ℤ) (width height x y : ℕ) → SFits w32 left → SFits w32 top
+    → region-position-outcome (read left) (read top) width height x y ≡ region-position-outcome left top width height x y
+region-read left top width height x y l t =
+    ap₂ (λ (l t : ℤ). region-position-outcome l t width height x y) (toZ-ofZ w32 left l) (toZ-ofZ w32 top t)
+
 -- the outcome, by what the region's method gave
 placed : (c : tie.After-position) → let a = c .before .args in
-    position-outcome (region-of (a .left) (a .top) (a .width) (a .height)) (a .x) (a .y) ≡ of-placed (c .position .result)
+    region-position-outcome (a .left) (a .top) (a .width) (a .height) (a .x) (a .y) ≡ of-placed (c .position .result)
 placed c =
     let a = c .before .args in
     let f = c .before .fits in
-    sym (c .position .ensures
-    ∙ ap₂ (λ (l t : ℤ). position-outcome (region-of l t (a .width) (a .height)) (a .x) (a .y)) (toZ-ofZ w32 (a .left) (f .left))
-    (toZ-ofZ w32 (a .top) (f .top)))
+    sym (c .position .ensures ∙ region-read (a .left) (a .top) (a .width) (a .height) (a .x) (a .y) (f .left) (f .top))
 
 position-requires : tie.Need-position-requires
 position-requires c κs = search needs

@@ -2,7 +2,7 @@
 -- Assumes nothing.
 use mathlib.Core.Path.{sym, ap, _∙_}
 use Rattle.plan.specs.Walk.{of-opened}
-use Rattle.vektrid.proofs.Outcomes.{refused-answer, refused-leaves, accepted-answer, accepted-hands}
+use Rattle.answers.proofs.Outcomes.{refused-answer, refused-leaves, accepted-answer, accepted-hands}
 use borrow.Author.Needs.{needs}
 use Rattle.vektrid.proofs.walks.vektrid_walk_open.Statement.{statement}
 use Rattle.vektrid.proofs.walks.vektrid_walk_open.Tie as tie

@@ -1,0 +1,3 @@
+pub mod Loading
+pub mod Stepping
+pub mod Copies

@@ -1,0 +1,97 @@
+-- `queries::query`: once the pair is loaded the outcome is the query's (`answered`), and of its refusals only 3 has values (`no-values`).
+-- Assumes nothing.
+use mathlib.Core.Path.{_≡_, sym, ap, _∙_}
+use mathlib.Core.List.{List}
+use Prim.Native.Nat.{ℕ}
+use borrow.Author.Needs.{needs}
+use Rattle.refusal.specs.Outcome.{Outcome, refused}
+use Rattle.refusal.specs.Refusal.{number, of-refusal}
+use Rattle.plan.specs.declared.pair.Plan.{Plan}
+use Rattle.plan.specs.Pair.{load-outcome, loaded}
+use Rattle.stratify.specs.Answers.{query-outcome, of-located}
+use Rattle.answers.specs.Answers.{answer-number}
+use Rattle.pair_calls.specs.Calls.{pair-query-outcome}
+use Rattle.answers.proofs.Outcomes.{refused-answer, refused-leaves, refused-gives, accepted-answer, accepted-hands, accepted-leaves}
+use Rattle.pair_calls.proofs.Loading.{stops, goes-on}
+use Rattle.answers.proofs.Refusals.{no-values}
+use Rattle.pair_calls.proofs.queries.query.Statement.{statement}
+use Rattle.pair_calls.proofs.queries.query.Tie as tie
+
+-- what a query of the loaded matrices came to is what the call comes to
+answered : (words : List ℕ) (x y level m a c r k : ℕ) {n : ℕ} → n ≡ answer-number (load-outcome words) → n ≡ 0 → {plan : Plan} → plan ≡ loaded words
+    → {o : Outcome ℕ} → o ≡ query-outcome plan (record { x = x; y = y }) level m a k c r → pair-query-outcome words x y level m a c r k ≡ o
+answered words x y level m a c r k is none loads found =
+    goes-on words is _ none ∙ sym (found ∙ ap (λ (P : Plan). query-outcome P (record { x = x; y = y }) level m a k c r) loads)
+
+located : (c : tie.After-query) → let a = c .before .before .before .before .before .args in
+    pair-query-outcome (a .words .now) (a .shift-x) (a .shift-y) (a .level) (a .m) (a .a) (a .column) (a .row) (a .block) ≡ of-located (c .query .result)
+located c =
+    let l = c .before in
+    let n = l .before in
+    let a = n .before .before .before .args in
+    answered (a .words .now) (a .shift-x) (a .shift-y) (a .level) (a .m) (a .a) (a .column) (a .row) (a .block) (n .before .pair-answer .ensures)
+    (n .if1 .left) (l .pair-plan .ensures) (c .query .ensures)
+
+pair-answer-requires : tie.Need-pair-answer-requires
+pair-answer-requires c κs = search needs
+
+returns : tie.Need-returns
+returns c =
+    let e = stops (c .before .before .before .args .words .now) (c .before .pair-answer .ensures) _ (c .if1 .taken) in
+    (refused-answer e, (refused-leaves e (λ i. i) _, refused-gives e 2 _))
+
+pair-plan-requires : tie.Need-pair-plan-requires
+pair-plan-requires c κs = search needs
+
+query-requires : tie.Need-query-requires
+query-requires c κs = search needs
+
+enum-known-located : tie.Need-enum-known-located
+enum-known-located c = search needs
+
+enum-known-located-2 : tie.Need-enum-known-located-2
+enum-known-located-2 c = search needs
+
+number-requires : tie.Need-number-requires
+number-requires c κs = search needs
+
+enum-known-why : tie.Need-enum-known-why
+enum-known-why c = search needs
+
+returns-2 : tie.Need-returns-2
+returns-2 c =
+    let n = c .before .before .before in
+    let d = n .before .before in
+    let e = located (d .before .before) ∙ ap of-located (d .located2 .given .1) in
+    let three = e ∙ ap of-refusal (c .before .why .given .1) in
+    (n .number .ensures ∙ refused-answer e, (refused-leaves three (λ i. i) _, refused-gives three 2 _))
+
+returns-3 : tie.Need-returns-3
+returns-3 c =
+    let e = located (c .before .before .before) ∙ ap of-located (c .before .located .given .1) in
+    (accepted-answer e, (accepted-hands e (λ i. i) _, accepted-leaves e 2 _))
+
+returns-4 : tie.Need-returns-4
+returns-4 c =
+    let n = c .before in
+    let d = n .before .before in
+    let why = d .located2 .given .0 .0 in
+    let e = located (d .before .before) ∙ ap of-located (d .located2 .given .1) in
+    let other = e ∙ ap (refused (number why)) (no-values why (c .match2 .keys2)) in
+    (n .number .ensures ∙ refused-answer e, (refused-leaves other (λ i. i) _, refused-gives other 2 _))
+
+pub query-spec : {M : Type 1} → statement M
+query-spec =
+    tie.close
+    (tie.spec
+    pair-answer-requires
+    returns
+    pair-plan-requires
+    query-requires
+    enum-known-located
+    enum-known-located-2
+    number-requires
+    enum-known-why
+    returns-2
+    returns-3
+    returns-4)

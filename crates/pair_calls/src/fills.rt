@@ -1,0 +1,39 @@
+// Fills of two lent buffers.
+use crate::pairs::pair_answer;
+use crate::pairs::pair_plan;
+use answers::number_of;
+use plan::Shift;
+ghost use mathlib.Core.Path.{_≡_};
+ghost use Rattle.answers.specs.Answers.{answer-number};
+ghost use Rattle.pair_calls.specs.Calls.{pair-fill-outcome, pair-filled};
+
+// The points of the indexes from start on, as many as the buffers have room for.
+pub fn fill(
+    words: &[u32],
+    shift_x: u32,
+    shift_y: u32,
+    start: u32,
+    xs: &mut [u32],
+    ys: &mut [u32],
+) -> u32
+    ensures answer { λ r. ⌜ r ≡ answer-number (pair-fill-outcome (now (words .entry)) start (now (xs .entry)) (now (ys .entry))) ⌝ }
+    ensures xs { λ _. ⌜ now (xs .exit) ≡ pair-filled (now (words .entry)) «shift_x» «shift_y» start (now (xs .entry)) (now (ys .entry)) .x ⌝ }
+    ensures ys { λ _. ⌜ now (ys .exit) ≡ pair-filled (now (words .entry)) «shift_x» «shift_y» start (now (xs .entry)) (now (ys .entry)) .y ⌝ }
+{
+    let answer = pair_answer(words);
+    if answer != 0 {
+        return answer;
+    }
+    let plan = pair_plan(words);
+    let filled = plan::fill(
+        plan,
+        Shift {
+            x: shift_x,
+            y: shift_y,
+        },
+        start,
+        xs,
+        ys,
+    );
+    number_of(filled)
+}

@@ -1,0 +1,83 @@
+// The query of a cell.
+use crate::pairs::pair_answer;
+use crate::pairs::pair_plan;
+use plan::Shift;
+use refusal::Refusal;
+use stratify::Located;
+ghost use mathlib.Core.Path.{_≡_};
+ghost use Rattle.answers.specs.Answers.{answer-number, part-left, value-left};
+ghost use Rattle.pair_calls.specs.Calls.{pair-query-outcome};
+
+// The answer, and what the words lent for the index and for the least index of a bad shape hold then.
+pub struct QueryAnswer {
+    pub answer: u32,
+    pub index: u32,
+    pub j: u32,
+}
+
+// The one index of a block in a cell; 3 gives the shape's least index.
+pub fn query(
+    words: &[u32],
+    shift_x: u32,
+    shift_y: u32,
+    level: u32,
+    m: u32,
+    a: u32,
+    column: u32,
+    row: u32,
+    block: u32,
+    index: u32,
+    j: u32,
+) -> QueryAnswer
+    ensures answer { λ r. ⌜
+        r .answer ≡ answer-number (pair-query-outcome (now (words .entry)) «shift_x» «shift_y» level m a column row block) ⌝ }
+    ensures index { λ r. ⌜
+        r .index ≡ part-left (pair-query-outcome (now (words .entry)) «shift_x» «shift_y» level m a column row block) (λ i. i) index ⌝ }
+    ensures j { λ r. ⌜
+        r .j ≡ value-left (pair-query-outcome (now (words .entry)) «shift_x» «shift_y» level m a column row block) 2 j ⌝ }
+{
+    let answer = pair_answer(words);
+    if answer != 0 {
+        return QueryAnswer { answer, index, j };
+    }
+    let plan = pair_plan(words);
+    let located = stratify::query(
+        plan,
+        Shift {
+            x: shift_x,
+            y: shift_y,
+        },
+        level,
+        m,
+        a,
+        column,
+        row,
+        block,
+    );
+    match located {
+        Located::Found(found) => QueryAnswer {
+            answer: 0,
+            index: found,
+            j,
+        },
+        Located::Refused(why) => {
+            let number = why.number();
+            if let Refusal::NotNet {
+                m: _,
+                a: _,
+                j: least,
+            } = why {
+                return QueryAnswer {
+                    answer: number,
+                    index,
+                    j: least,
+                };
+            }
+            QueryAnswer {
+                answer: number,
+                index,
+                j,
+            }
+        }
+    }
+}

@@ -1,6 +1,0 @@
-pub mod Outcomes
-pub mod Loading
-pub mod Stepping
-pub mod Refusals
-pub mod Copies
-pub mod Words
