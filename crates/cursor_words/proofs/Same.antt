@@ -20,6 +20,7 @@ behind-walk (a ∷ []) = refl
 behind-walk (a ∷ b ∷ ws) = refl
 
 -- a piece of a listing, between cursors that are the same
-pub piece-same : (file piece : List ℕ) (room : ℕ) {c c' d d' : Cursor} → c ≡ c' → d ≡ d' → ListingPiece file c d piece room → ListingPiece file c' d' piece room
+pub piece-same : (file piece : List ℕ) (room : ℕ) {c c' d d' : Cursor} → c ≡ c' → d ≡ d' → ListingPiece file c d piece room
+    → ListingPiece file c' d' piece room
 piece-same file piece room {c} {c'} {d} {d'} e f h =
     subst (λ (x : Cursor). ListingPiece file c' x piece room) f (subst (λ (x : Cursor). ListingPiece file x d piece room) e h)

@@ -9,10 +9,10 @@ use Rattle.listing.specs.declared.cursors.Lead.the-variants as lead
 use Rattle.listing.specs.declared.cursors.Cursor.{Cursor}
 use Rattle.file_words.specs.Words.{walk-of}
 
--- what stands before the lines: nothing, the header, or a refusal's number
+-- what stands before the lines, by two words: nothing, the header, or the number of a refusal
 abbrev pub lead-of : ℕ → ℕ → Lead
 lead-of kind number = cond (eqb kind 0) lead.Nothing (cond (eqb kind 1) lead.Header (lead.Refused number))
 
--- a cursor: two words for what stands before the lines, and a walk
+-- the cursor that words stand for: two for what stands before the lines, and then those of a walk
 abbrev pub cursor-of : List ℕ → Cursor
 cursor-of ws = record { lead = lead-of (getD ws 0 0) (getD ws 1 0); walk = walk-of (drop 2 ws) }

@@ -6,7 +6,7 @@ use mir.Syntax.{w32}
 use mir.Val.{toZ}
 use Rattle.visits.specs.declared.file_walks.FileWalk.{FileWalk}
 
--- a walk by its fields, one after the other; the edges in two's complement
+-- the walk that words stand for: its fields, one after the other, the edges in two's complement
 abbrev pub walk-of : List ℕ → FileWalk
 walk-of ws = record {
   number = getD ws 0 0;

@@ -57,8 +57,10 @@ pub extern "C" fn vektrid_walk_step_singles(
         r ≡ answer-number (step-singles-outcome (now (words .entry)) «shift_x» «shift_y» (now (next .entry)) (now (left .entry))) ⌝ }
     ensures words { λ _. ⌜
         step-words (now (next .exit)) (now (left .exit)) (now (given .exit)) (now (index .exit)) (two-singles (now (x .exit)) (now (y .exit)))
-        ≡ left-in (step-singles-outcome (now (words .entry)) «shift_x» «shift_y» (now (next .entry)) (now (left .entry))) (λ v. v .index) (λ v. v .at)
-        (step-words (now (next .entry)) (now (left .entry)) (now (given .entry)) (now (index .entry)) (two-singles (now (x .entry)) (now (y .entry)))) ⌝ }
+        ≡ left-in (step-singles-outcome (now (words .entry)) «shift_x» «shift_y» (now (next .entry)) (now (left .entry)))
+        (λ v. v .index) (λ v. v .at)
+        (step-words (now (next .entry)) (now (left .entry)) (now (given .entry)) (now (index .entry))
+        (two-singles (now (x .entry)) (now (y .entry)))) ⌝ }
 {
     let stepped = pair_calls::step_singles(
         words,

@@ -1,8 +1,8 @@
--- `cursors::cursor_of` meets its contract.
+-- `cursors::cursor_of`: the words of the walk, read one by one, are the words behind the first two (`behind-walk`).
 -- Assumes nothing.
 use mathlib.Core.Path.{_∙_}
-use Rattle.cursor_words.proofs.Same.{behind-walk}
 use borrow.Author.Needs.{needs}
+use Rattle.cursor_words.proofs.Same.{behind-walk}
 use Rattle.cursor_words.proofs.cursors.cursor_of.Statement.{statement}
 use Rattle.cursor_words.proofs.cursors.cursor_of.Tie as tie
 

@@ -1,4 +1,4 @@
--- `cursors::lead_of` meets its contract.
+-- `cursors::lead_of`: the code makes the tests of the definition, in its order.
 -- Assumes nothing.
 use borrow.Author.Tests.{eq-eqb, ne-eqb}
 use Rattle.cursor_words.proofs.cursors.lead_of.Statement.{statement}

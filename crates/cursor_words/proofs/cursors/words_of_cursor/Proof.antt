@@ -1,4 +1,4 @@
--- `cursors::words_of_cursor` meets its contract.
+-- `cursors::words_of_cursor`: both parts of the cursor read back, the lead and the walk.
 -- Assumes nothing.
 use borrow.Author.Needs.{needs}
 use Rattle.cursor_words.proofs.cursors.words_of_cursor.Statement.{statement}

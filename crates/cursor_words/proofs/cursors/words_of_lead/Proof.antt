@@ -1,4 +1,4 @@
--- `cursors::words_of_lead` meets its contract.
+-- `cursors::words_of_lead`: by the three cases of what stands before the lines.
 -- Assumes nothing.
 use mathlib.Core.Path.{sym}
 use borrow.Author.Needs.{needs}

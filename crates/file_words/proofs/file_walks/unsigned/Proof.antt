@@ -1,4 +1,4 @@
--- `file_walks::unsigned` meets its contract.
+-- `file_walks::unsigned`: below zero the word is 2 ^ 32 - 1 - k for the number -1 - k (`below`), and else the number itself (`above`).
 -- Assumes nothing.
 use mathlib.Core.Path.{sym, ap, _∙_, subst}
 use Prim.Native.Nat.{_-_, _≤_}

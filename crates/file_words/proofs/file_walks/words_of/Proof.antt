@@ -1,10 +1,10 @@
--- `file_walks::words_of` meets its contract.
+-- `file_walks::words_of`: the edges, stored as words, read back as they were (`toZ-ofZ`); all other fields are words already.
 -- Assumes nothing.
 use mathlib.Core.Path.{ap₂, _∙_}
+use borrow.Author.Needs.{needs}
 use mir.Syntax.{w32}
 use mir.ValLaws.{toZ-ofZ}
 use Rattle.file_words.proofs.Words.{edged}
-use borrow.Author.Needs.{needs}
 use Rattle.file_words.proofs.file_walks.words_of.Statement.{statement}
 use Rattle.file_words.proofs.file_walks.words_of.Tie as tie
 

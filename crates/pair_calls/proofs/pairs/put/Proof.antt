@@ -1,4 +1,4 @@
--- `pairs::put` meets its contract: after i turns the first i words are the columns'.
+-- `pairs::put`: after i turns the first i words are the columns' (`one-more`).
 -- Assumes nothing.
 use mathlib.Core.Path.{_≡_, refl, sym, _∙_}
 use Prim.Native.Nat.{_≤_, _-_}

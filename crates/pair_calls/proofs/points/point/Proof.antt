@@ -1,10 +1,10 @@
 -- `points::point`: once the pair is loaded, the outcome is accepted with what was made of the matrices (`gives`).
 -- Assumes nothing.
+use borrow.Author.Needs.{needs}
 use Rattle.net.specs.Sequence.{point}
 use Rattle.plan.specs.Pair.{sequence}
 use Rattle.answers.proofs.Outcomes.{refused-answer, refused-leaves, accepted-answer, accepted-hands}
 use Rattle.pair_calls.proofs.Loading.{stops, gives}
-use borrow.Author.Needs.{needs}
 use Rattle.pair_calls.proofs.points.point.Statement.{statement}
 use Rattle.pair_calls.proofs.points.point.Tie as tie
 

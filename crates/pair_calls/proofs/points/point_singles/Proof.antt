@@ -1,11 +1,11 @@
 -- `points::point_singles`: once the pair is loaded, the outcome is accepted with what was made of the matrices (`gives`).
 -- Assumes nothing.
+use borrow.Author.Needs.{needs}
 use Rattle.net.specs.Sequence.{point}
 use Rattle.plan.specs.Pair.{sequence}
 use Rattle.unit.specs.Singles.{singles-of}
 use Rattle.answers.proofs.Outcomes.{refused-answer, refused-leaves, accepted-answer, accepted-hands}
 use Rattle.pair_calls.proofs.Loading.{stops, gives}
-use borrow.Author.Needs.{needs}
 use Rattle.pair_calls.proofs.points.point_singles.Statement.{statement}
 use Rattle.pair_calls.proofs.points.point_singles.Tie as tie
 
@@ -28,7 +28,8 @@ returns-2 c =
     let l = c .before in
     let a = l .before .before .before .before .args in
     let n = l .before .before .pair-answer .ensures in
-    let e = gives (a .words .now) n (l .before .if1 .left) (λ P. singles-of (point (sequence P (record { x = a .shift-x; y = a .shift-y })) (a .index)))
+    let e = gives (a .words .now) n (l .before .if1 .left)
+    (λ P. singles-of (point (sequence P (record { x = a .shift-x; y = a .shift-y })) (a .index)))
     (l .pair-plan .ensures) (c .singles-at .ensures) in
     (accepted-answer e, (accepted-hands e (λ p. p .x) _, accepted-hands e (λ p. p .y) _))
 
