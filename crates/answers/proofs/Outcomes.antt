@@ -1,4 +1,4 @@
--- Refused and accepted outcomes as C is left-in them: the number, and what lent words hold then.
+-- What is known of the number and of the lent words once an outcome is known to be refused, or to be accepted.
 -- Assumes nothing.
 use mathlib.Core.Path.{_≡_, sym, ap}
 use mathlib.Core.List.{List}

@@ -1,4 +1,4 @@
--- The values of a refusal: only 3 has any.
+-- Of all refusals only 3 has values.
 -- Assumes nothing.
 use mathlib.Core.Path.{_≡_, refl}
 use mathlib.Core.List.{List, [], _∷_}
@@ -10,14 +10,14 @@ use Rattle.refusal.specs.declared.Refusal.the-variants as variant
 use Rattle.refusal.proofs.Refusal.{the-type}
 use Rattle.refusal.specs.Refusal.{values}
 
--- the places of the others among the variants
-abbrev pub others : List ℕ
-others = 0 ∷ 1 ∷ 3 ∷ 4 ∷ 5 ∷ 6 ∷ 7 ∷ 8 ∷ 9 ∷ 10 ∷ 11 ∷ 12 ∷ 13 ∷ 14 ∷ []
+-- the numbers that the variants without values have among all variants, from 0
+abbrev pub without-values : List ℕ
+without-values = 0 ∷ 1 ∷ 3 ∷ 4 ∷ 5 ∷ 6 ∷ 7 ∷ 8 ∷ 9 ∷ 10 ∷ 11 ∷ 12 ∷ 13 ∷ 14 ∷ []
 
-pub no-values : (why : Refusal) → OneOf others (tagOf the-type why) → values why ≡ []
+pub no-values : (why : Refusal) → OneOf without-values (tagOf the-type why) → values why ≡ []
 no-values variant.WordCount h = refl
 no-values variant.Level h = refl
-no-values (variant.NotNet m a j) h = absurd (miss others 2 tt h)
+no-values (variant.NotNet m a j) h = absurd (miss without-values 2 tt h)
 no-values variant.Size h = refl
 no-values variant.Shape h = refl
 no-values variant.Cell h = refl

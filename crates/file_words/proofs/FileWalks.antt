@@ -1,4 +1,4 @@
--- What a call on a file leaves in the words, by what the walk or the cursor that they stand for did.
+-- What opening a file and stepping in it leave in the words, by what the walk that they stand for did.
 -- Assumes nothing.
 use mathlib.Core.Path.{_≡_, sym, ap, _∙_, subst}
 use mathlib.Core.List.{List}
@@ -9,17 +9,8 @@ use Rattle.visits.specs.declared.file_walks.FileWalk.{FileWalk}
 use Rattle.visits.specs.declared.file_walks.Step.{Step}
 use Rattle.visits.specs.declared.file_walks.Step.the-variants as step
 use Rattle.visits.specs.FileWalk.{visits-to-come, Gives}
-use Rattle.listing.specs.declared.cursors.Cursor.{Cursor}
-use Rattle.listing.specs.Cursor.{ListingPiece}
 use Rattle.file_words.specs.Words.{walk-of}
 use Rattle.file_words.specs.FileWalks.{visits-by-words, Opens, all-but-first, VisitWords, visit-words, visit-given, visit-left}
-
--- a piece of a listing, between cursors that are the same
-pub piece-same : (file piece : List ℕ) (room : ℕ) {c c' d d' : Cursor} → c ≡ c' → d ≡ d' → ListingPiece file c d piece room → ListingPiece file c' d' piece room
-piece-same file piece room {c} {c'} {d} {d'} e f h =
-    subst (λ (x : Cursor). ListingPiece file c' x piece room) f (subst (λ (x : Cursor). ListingPiece file x d piece room) e h)
-
--- ---- visits
 
 module _ (file : List ℕ) {o : Outcome (List FileVisit)} (old new : List ℕ) where
   pub opened : {vs : List FileVisit} → o ≡ accepted vs → visits-by-words file new ≡ vs → Opens file o old new

@@ -1,4 +1,4 @@
--- Calls with a pair: what comes after loading its words, by the number that loading came to.
+-- A call with a pair tests the words first. Where the number of that test is not 0 the call is refused under it; where it is 0 the call goes on.
 -- Assumes nothing.
 use mathlib.Core.Path.{_≡_, refl, sym, ap, _∙_}
 use mathlib.Core.Bool.{Bool, true, false, not}
@@ -15,7 +15,7 @@ use Rattle.plan.specs.Pair.{load-outcome, loaded}
 use Rattle.answers.specs.Answers.{answer-number}
 use Rattle.pair_calls.specs.Calls.{of-pair}
 
--- loading by its one test
+-- loading, by its one test
 abbrev tested : Bool → Outcome Unit
 tested b = first (record { number = 1; holds = b } ∷ []) (accepted tt)
 
@@ -43,7 +43,7 @@ module _ (words : List ℕ) {n : ℕ} (is : n ≡ answer-number (load-outcome wo
     pub goes-on : n ≡ 0 → then (load-outcome words) after ≡ after
     goes-on none = then-accepted after (load-accepted none)
 
-  -- what a call made of the matrices
+  -- an accepted call gives what it made of the loaded matrices
   pub gives : n ≡ 0 → {A : Type 0} (make : Plan → A) {P : Plan} {a : A} → P ≡ loaded words → a ≡ make P
       → of-pair words (make (loaded words)) ≡ accepted a
   gives none make plan made = goes-on _ none ∙ ap accepted (sym (made ∙ ap make plan))

@@ -1,21 +1,21 @@
--- A step of a walk with a pair: what C is left-in of it, by what the step gave.
+-- A step of a walk with a pair: what is left in the lent words, by whether the pair is refused, the walk has ended, or there is a visit.
 -- Assumes nothing.
 use mathlib.Core.Path.{_≡_, sym, ap, _∙_}
 use mathlib.Core.Logic.{_≢_}
 use mathlib.Core.List.{List}
 use Prim.Native.Nat.{ℕ}
-use Rattle.net.specs.Sequence.{Sequence}
 use Rattle.ranges.specs.Walk.{Walk, Answer, visited, ended, Stepped, step}
+use Rattle.net.specs.Sequence.{Sequence}
 use Rattle.refusal.specs.Outcome.{Outcome, accepted}
 use Rattle.plan.specs.declared.pair.Plan.{Plan}
 use Rattle.plan.specs.Pair.{sequence, load-outcome, loaded}
 use Rattle.word.specs.Index.{last-index}
 use Rattle.answers.specs.Answers.{answer-number, StepWords, step-words, left-by-step, left-in}
-use Rattle.pair_calls.specs.Calls.{pair-points, of-pair}
 use Rattle.answers.proofs.Outcomes.{refused-answer, refused-leaves, accepted-answer, accepted-hands}
+use Rattle.pair_calls.specs.Calls.{pair-points, of-pair}
 use Rattle.pair_calls.proofs.Loading.{stops, gives}
 
--- the step from the lent words, of any visits
+-- the step from the walk in the lent words, for visits of any kind
 abbrev from : {A P : Type 0} → (Sequence → ℕ → A) → Sequence → StepWords P → Stepped A
 from visit-of S old = step (visit-of S) last-index (record { next = old .next; left = old .left })
 
@@ -35,7 +35,8 @@ module _ {A P : Type 0} (visit-of : Sequence → ℕ → A) (index : A → ℕ) 
     is : o ≡ accepted (record { answer = s; walk = w })
     is = gives words number none (λ P. from visit-of (sequence P (record { x = shift-x; y = shift-y })) old) loads taken
 
-    pub step-visited : {v : A} → s ≡ visited v → (0 ≡ answer-number o) × (step-words (w .next) (w .left) 1 (index v) (point v) ≡ left-in o index point old)
+    pub step-visited : {v : A} → s ≡ visited v
+        → (0 ≡ answer-number o) × (step-words (w .next) (w .left) 1 (index v) (point v) ≡ left-in o index point old)
     step-visited e = (accepted-answer is, ap (λ (t : Answer A). left-by-step w t index point old) (sym e) ∙ accepted-hands is _ old)
 
     pub step-ended : s ≡ ended → (0 ≡ answer-number o) × (step-words (w .next) (w .left) 0 (old .index) (old .point) ≡ left-in o index point old)

@@ -7,7 +7,7 @@ ghost use mathlib.Core.Path.{_≡_};
 ghost use Rattle.answers.specs.Answers.{answer-number};
 ghost use Rattle.pair_calls.specs.Calls.{pair-fill-outcome, pair-filled};
 
-// The points of the indexes from start on, as many as the buffers have room for.
+// The points of the indexes from start on, into every word of both buffers.
 pub fn fill(
     words: &[u32],
     shift_x: u32,

@@ -3,6 +3,7 @@
 mod checks;
 mod fills;
 mod pairs;
+mod points;
 mod queries;
 mod steps;
 
@@ -10,9 +11,11 @@ pub use checks::CheckAnswer;
 pub use checks::check;
 pub use fills::fill;
 pub use pairs::PAIR_WORDS;
-pub use pairs::pair_answer;
-pub use pairs::pair_plan;
 pub use pairs::write_standard;
+pub use points::PointAnswer;
+pub use points::SinglesAnswer;
+pub use points::point;
+pub use points::point_singles;
 pub use queries::QueryAnswer;
 pub use queries::query;
 pub use steps::SinglesStepAnswer;

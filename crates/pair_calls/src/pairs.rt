@@ -14,7 +14,7 @@ ghost use Rattle.pair_calls.specs.Calls.{standard-words};
 pub const PAIR_WORDS: usize = 64;
 
 // 0, or 1 where the words are no pair.
-pub fn pair_answer(words: &[u32]) -> u32
+pub(crate) fn pair_answer(words: &[u32]) -> u32
     ensures { λ r. ⌜ r ≡ answer-number (load-outcome (now (words .entry))) ⌝ }
 {
     if words.len() == PAIR_WORDS {
@@ -25,7 +25,7 @@ pub fn pair_answer(words: &[u32]) -> u32
 }
 
 // The matrices of a pair, without the judgement: `pair_answer` has given it, and a call that carries both is slower.
-pub fn pair_plan(words: &[u32]) -> Plan
+pub(crate) fn pair_plan(words: &[u32]) -> Plan
     ensures { λ r. ⌜ r ≡ loaded (now (words .entry)) ⌝ }
 {
     let loaded = Plan::load(words);

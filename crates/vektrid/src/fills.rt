@@ -3,7 +3,7 @@ ghost use mathlib.Core.Path.{_≡_};
 ghost use Rattle.answers.specs.Answers.{answer-number};
 ghost use Rattle.pair_calls.specs.Calls.{pair-fill-outcome, pair-filled};
 
-// The points of the indexes from start on, as many as the buffers have room for.
+// The points of the indexes from start on, into every word of both buffers.
 #[no_mangle]
 pub extern "C" fn vektrid_fill(
     words: &[u32],

@@ -1,13 +1,13 @@
 // Listings in pieces, from a cursor of words that the caller keeps.
-use file_words::CursorWords;
-use file_words::words_of_cursor;
+use cursor_words::CursorWords;
+use cursor_words::words_of_cursor;
 use listing::Cursor;
 ghost use mathlib.Core.Path.{_≡_};
 ghost use lib.ListN.{length, take, drop};
 ghost use Rattle.text.specs.Pieces.{Counts};
 ghost use Rattle.listing.specs.Listing.{listing};
 ghost use Rattle.listing.specs.Cursor.{to-come, ListingPiece};
-ghost use Rattle.file_words.specs.Words.{cursor-of};
+ghost use Rattle.cursor_words.specs.Cursors.{cursor-of};
 
 // The start of a file's listing.
 #[no_mangle]
@@ -32,7 +32,7 @@ pub extern "C" fn vektrid_listing_piece(
         (take r (now (out .exit))) (length (now (out .exit))) ⌝ }
     ensures rest { λ r. ⌜ drop r (now (out .exit)) ≡ drop r (now (out .entry)) ⌝ }
 {
-    let piece = file_words::piece_words(file, *cursor, out);
+    let piece = cursor_words::piece_words(file, *cursor, out);
     let past = piece.cursor;
     *cursor = past;
     piece.len

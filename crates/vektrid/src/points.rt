@@ -1,6 +1,4 @@
 // Points by their indexes.
-use pair_calls::pair_answer;
-use pair_calls::pair_plan;
 use plan::Plan;
 use plan::Shift;
 ghost use mathlib.Core.Path.{_≡_};
@@ -23,21 +21,10 @@ pub extern "C" fn vektrid_point(
     ensures x { λ _. ⌜ now (x .exit) ≡ part-left (point-outcome (now (words .entry)) «shift_x» «shift_y» index) (λ p. p .0) (now (x .entry)) ⌝ }
     ensures y { λ _. ⌜ now (y .exit) ≡ part-left (point-outcome (now (words .entry)) «shift_x» «shift_y» index) (λ p. p .1) (now (y .entry)) ⌝ }
 {
-    let answer = pair_answer(words);
-    if answer != 0 {
-        return answer;
-    }
-    let plan = pair_plan(words);
-    let point = plan.point(
-        Shift {
-            x: shift_x,
-            y: shift_y,
-        },
-        index,
-    );
-    *x = point.x;
-    *y = point.y;
-    0
+    let found = pair_calls::point(words, shift_x, shift_y, index, *x, *y);
+    *x = found.x;
+    *y = found.y;
+    found.answer
 }
 
 // The point of an index of the standard pair, by its own faster way.

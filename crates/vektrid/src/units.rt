@@ -1,7 +1,4 @@
 // Unit numbers: of a word, and as singles those of a point and of a step.
-use pair_calls::pair_answer;
-use pair_calls::pair_plan;
-use plan::Shift;
 ghost use mathlib.Core.Path.{_≡_};
 ghost use Rattle.unit.specs.Word.{double, single};
 ghost use Rattle.answers.specs.Answers.{answer-number, part-left, step-words, left-in};
@@ -37,22 +34,10 @@ pub extern "C" fn vektrid_point_singles(
     ensures x { λ _. ⌜ now (x .exit) ≡ part-left (singles-outcome (now (words .entry)) «shift_x» «shift_y» index) (λ p. p .x) (now (x .entry)) ⌝ }
     ensures y { λ _. ⌜ now (y .exit) ≡ part-left (singles-outcome (now (words .entry)) «shift_x» «shift_y» index) (λ p. p .y) (now (y .entry)) ⌝ }
 {
-    let answer = pair_answer(words);
-    if answer != 0 {
-        return answer;
-    }
-    let plan = pair_plan(words);
-    let singles = unit::singles_at(
-        plan,
-        Shift {
-            x: shift_x,
-            y: shift_y,
-        },
-        index,
-    );
-    *x = singles.x;
-    *y = singles.y;
-    0
+    let found = pair_calls::point_singles(words, shift_x, shift_y, index, *x, *y);
+    *x = found.x;
+    *y = found.y;
+    found.answer
 }
 
 // A step of a walk with the point of its visit as two singles.
@@ -72,8 +57,10 @@ pub extern "C" fn vektrid_walk_step_singles(
         r ≡ answer-number (step-singles-outcome (now (words .entry)) «shift_x» «shift_y» (now (next .entry)) (now (left .entry))) ⌝ }
     ensures words { λ _. ⌜
         step-words (now (next .exit)) (now (left .exit)) (now (given .exit)) (now (index .exit)) (two-singles (now (x .exit)) (now (y .exit)))
-        ≡ left-in (step-singles-outcome (now (words .entry)) «shift_x» «shift_y» (now (next .entry)) (now (left .entry))) (λ v. v .index) (λ v. v .at)
-        (step-words (now (next .entry)) (now (left .entry)) (now (given .entry)) (now (index .entry)) (two-singles (now (x .entry)) (now (y .entry)))) ⌝ }
+        ≡ left-in (step-singles-outcome (now (words .entry)) «shift_x» «shift_y» (now (next .entry)) (now (left .entry)))
+        (λ v. v .index) (λ v. v .at)
+        (step-words (now (next .entry)) (now (left .entry)) (now (given .entry)) (now (index .entry))
+        (two-singles (now (x .entry)) (now (y .entry)))) ⌝ }
 {
     let stepped = pair_calls::step_singles(
         words,

@@ -1,10 +1,10 @@
--- `numbers::number_of` meets its contract.
+-- `numbers::number_of`: by the two cases of a judgement.
 -- Assumes nothing.
 use mathlib.Core.Path.{sym, ap, _∙_}
+use borrow.Author.Needs.{needs}
 use Rattle.refusal.specs.declared.Judgement.{Judgement}
 use Rattle.refusal.specs.Refusal.{of-judgement}
 use Rattle.answers.specs.Answers.{answer-number}
-use borrow.Author.Needs.{needs}
 use Rattle.answers.proofs.numbers.number_of.Statement.{statement}
 use Rattle.answers.proofs.numbers.number_of.Tie as tie
 

@@ -1,11 +1,11 @@
--- `file_walks::walk_of` meets its contract.
+-- `file_walks::walk_of`: the edges are read in two's complement (`signed`); all other fields are words already.
 -- Assumes nothing.
 use mathlib.Core.Path.{ap₂, _∙_}
+use borrow.Author.Needs.{needs}
 use mir.Syntax.{w32}
 use mir.ValLaws.{toZ-ofZ}
 use Rattle.file_words.specs.Words.{walk-of}
 use Rattle.file_words.proofs.Words.{edged}
-use borrow.Author.Needs.{needs}
 use Rattle.file_words.proofs.file_walks.walk_of.Statement.{statement}
 use Rattle.file_words.proofs.file_walks.walk_of.Tie as tie
 

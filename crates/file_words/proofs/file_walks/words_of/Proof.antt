@@ -1,9 +1,9 @@
--- `file_walks::words_of` meets its contract.
+-- `file_walks::words_of`: the edges, stored as words, read back as they were (`word-back`); all other fields are words already.
 -- Assumes nothing.
 use mathlib.Core.Path.{ap₂}
+use borrow.Author.Needs.{needs}
 use Rattle.signed.proofs.Signs.{word-back}
 use Rattle.file_words.proofs.Words.{edged}
-use borrow.Author.Needs.{needs}
 use Rattle.file_words.proofs.file_walks.words_of.Statement.{statement}
 use Rattle.file_words.proofs.file_walks.words_of.Tie as tie
 

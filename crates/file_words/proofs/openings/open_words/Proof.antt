@@ -1,11 +1,11 @@
 -- `openings::open_words`: the visits to come from the words are those of the walk that they stand for.
 -- Assumes nothing.
 use mathlib.Core.Path.{refl, sym, ap, _∙_}
+use borrow.Author.Needs.{needs}
 use denote.Ref.{now}
 use Rattle.visits.specs.FileWalk.{visits-to-come, of-opened-file}
 use Rattle.answers.proofs.Outcomes.{refused-answer, accepted-answer}
 use Rattle.file_words.proofs.FileWalks.{opened, unopened}
-use borrow.Author.Needs.{needs}
 use Rattle.file_words.proofs.openings.open_words.Statement.{statement}
 use Rattle.file_words.proofs.openings.open_words.Tie as tie
 

@@ -36,8 +36,8 @@ returns c =
     let s = t .before .before .before in
     let a = s .args in
     let f = s .fits in
-    let (rest, given, words) = step-ended (now (s .args .file)) (s .args .walk) (d .words-of .result) (t .before .walk-of .ensures) (d .words-of .ensures) (held s)
-    (t .step .ensures) (c .enum-told .given .1) in
+    let (rest, given, words) = step-ended (now (s .args .file)) (s .args .walk) (d .words-of .result) (t .before .walk-of .ensures)
+    (d .words-of .ensures) (held s) (t .step .ensures) (c .enum-told .given .1) in
     (rest, (given, ap₂ (visit-words (a .number) (a .index)) (toZ-ofZ w32 (a .x) (f .x)) (toZ-ofZ w32 (a .y) (f .y)) ∙ words))
 
 returns-2 : tie.Need-returns-2
@@ -46,8 +46,8 @@ returns-2 c =
     let t = d .before in
     let s = t .before .before .before in
     let v = c .before .before .step2 .given .0 .0 in
-    let (rest, given, words) = step-visited (now (s .args .file)) (s .args .walk) (d .words-of .result) (t .before .walk-of .ensures) (d .words-of .ensures) (held s)
-    (t .step .ensures) (c .before .before .step2 .given .1) in
+    let (rest, given, words) = step-visited (now (s .args .file)) (s .args .walk) (d .words-of .result) (t .before .walk-of .ensures)
+    (d .words-of .ensures) (held s) (t .step .ensures) (c .before .before .step2 .given .1) in
     let last = c .struct-told .given .1 .1 in (
       rest,
       (given, ap₂ (visit-words (v .number) (v .index)) (toZ-ofZ w32 (v .x) (search needs)) (toZ-ofZ w32 (v .y) (search needs)) ∙ words),

@@ -11,8 +11,8 @@ use Rattle.plan.specs.Pair.{sequence, load-outcome, loaded}
 use Rattle.word.specs.Index.{index-count}
 use Rattle.plan.specs.Fill.{Buffers, fill-outcome, filled}
 use Rattle.answers.specs.Answers.{answer-number}
-use Rattle.pair_calls.specs.Calls.{pair-filled}
 use Rattle.answers.proofs.Outcomes.{refused-answer}
+use Rattle.pair_calls.specs.Calls.{pair-filled}
 use Rattle.pair_calls.proofs.Loading.{load-refused, load-accepted, stops, goes-on}
 use Rattle.pair_calls.proofs.fills.fill.Statement.{statement}
 use Rattle.pair_calls.proofs.fills.fill.Tie as tie

@@ -1,9 +1,9 @@
--- `pairs::pair_answer` meets its contract.
+-- `pairs::pair_answer`: loading tests the count of words and nothing else.
 -- Assumes nothing.
 use mathlib.Core.Path.{_∙_}
+use borrow.Author.Needs.{needs}
 use Rattle.plan.proofs.Loading.{loading-refuses, loading-accepts}
 use Rattle.answers.proofs.Outcomes.{refused-answer, accepted-answer}
-use borrow.Author.Needs.{needs}
 use Rattle.pair_calls.proofs.pairs.pair_answer.Statement.{statement}
 use Rattle.pair_calls.proofs.pairs.pair_answer.Tie as tie
 

@@ -1,9 +1,10 @@
--- `pairs::write_standard` meets its contract.
+-- `pairs::write_standard`: the two halves, written one after the other, are the words of the pair (`halves`).
 -- Assumes nothing.
 use mathlib.Core.Path.{_≡_, sym, ap, ap₂, _∙_}
 use mathlib.Core.List.{List, _++_}
 use Prim.Native.Nat.{ℕ}
 use native.Mathlib.Omega.{arith}
+use borrow.Author.Needs.{needs}
 use lib.ListN.{length, drop}
 use lib.Seq.{length-take-le}
 use Rattle.refusal.proofs.First.{granted-accepted, granted-refused}
@@ -11,7 +12,6 @@ use Rattle.plan.specs.declared.pair.Plan.{Plan}
 use Rattle.plan.proofs.Loading.{loading-refuses, loading-accepts}
 use Rattle.answers.proofs.Outcomes.{refused-answer, accepted-answer}
 use Rattle.pair_calls.proofs.Copies.{halves}
-use borrow.Author.Needs.{needs}
 use Rattle.pair_calls.proofs.pairs.write_standard.Statement.{statement}
 use Rattle.pair_calls.proofs.pairs.write_standard.Tie as tie
 

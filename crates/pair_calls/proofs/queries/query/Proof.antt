@@ -10,10 +10,10 @@ use Rattle.plan.specs.declared.pair.Plan.{Plan}
 use Rattle.plan.specs.Pair.{load-outcome, loaded}
 use Rattle.stratify.specs.Answers.{query-outcome, of-located}
 use Rattle.answers.specs.Answers.{answer-number}
-use Rattle.pair_calls.specs.Calls.{pair-query-outcome}
 use Rattle.answers.proofs.Outcomes.{refused-answer, refused-leaves, refused-gives, accepted-answer, accepted-hands, accepted-leaves}
-use Rattle.pair_calls.proofs.Loading.{stops, goes-on}
 use Rattle.answers.proofs.Refusals.{no-values}
+use Rattle.pair_calls.specs.Calls.{pair-query-outcome}
+use Rattle.pair_calls.proofs.Loading.{stops, goes-on}
 use Rattle.pair_calls.proofs.queries.query.Statement.{statement}
 use Rattle.pair_calls.proofs.queries.query.Tie as tie
 
@@ -24,7 +24,8 @@ answered words x y level m a c r k is none loads found =
     goes-on words is _ none ∙ sym (found ∙ ap (λ (P : Plan). query-outcome P (record { x = x; y = y }) level m a k c r) loads)
 
 located : (c : tie.After-query) → let a = c .before .before .before .before .before .args in
-    pair-query-outcome (a .words .now) (a .shift-x) (a .shift-y) (a .level) (a .m) (a .a) (a .column) (a .row) (a .block) ≡ of-located (c .query .result)
+    pair-query-outcome (a .words .now) (a .shift-x) (a .shift-y) (a .level) (a .m) (a .a) (a .column) (a .row) (a .block)
+    ≡ of-located (c .query .result)
 located c =
     let l = c .before in
     let n = l .before in

@@ -41,7 +41,8 @@ returns-2 c =
     let n = t .before .before in
     let s = n .before .before .before in
     step-ended visit-singles (λ v. v .index) (λ v. v .at) (s .args .words .now) (s .args .shift-x) (s .args .shift-y) (held s)
-    (n .before .pair-answer .ensures) (n .if1 .left) (t .before .pair-plan .ensures) (t .step-singles .ensures) (ap of-singles-step (c .enum-told .given .1))
+    (n .before .pair-answer .ensures) (n .if1 .left) (t .before .pair-plan .ensures) (t .step-singles .ensures)
+    (ap of-singles-step (c .enum-told .given .1))
 
 returns-3 : tie.Need-returns-3
 returns-3 c =
@@ -49,7 +50,8 @@ returns-3 c =
     let n = t .before .before in
     let s = n .before .before .before in
     step-visited visit-singles (λ v. v .index) (λ v. v .at) (s .args .words .now) (s .args .shift-x) (s .args .shift-y) (held s)
-    (n .before .pair-answer .ensures) (n .if1 .left) (t .before .pair-plan .ensures) (t .step-singles .ensures) (ap of-singles-step (c .before .before .step .given .1))
+    (n .before .pair-answer .ensures) (n .if1 .left) (t .before .pair-plan .ensures) (t .step-singles .ensures)
+    (ap of-singles-step (c .before .before .step .given .1))
 
 pub step-singles-spec : {M : Type 1} → statement M
 step-singles-spec =

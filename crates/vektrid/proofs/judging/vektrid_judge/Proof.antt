@@ -1,8 +1,8 @@
--- `judging::vektrid_judge` meets its contract.
+-- `judging::vektrid_judge`: the number of the judgement of the file.
 -- Assumes nothing.
 use mathlib.Core.Path.{ap, _∙_}
-use Rattle.answers.specs.Answers.{answer-number}
 use borrow.Author.Needs.{needs}
+use Rattle.answers.specs.Answers.{answer-number}
 use Rattle.vektrid.proofs.judging.vektrid_judge.Statement.{statement}
 use Rattle.vektrid.proofs.judging.vektrid_judge.Tie as tie
 

@@ -1,9 +1,9 @@
--- `listings::vektrid_listing_open` meets its contract.
+-- `listings::vektrid_listing_open`: the words stand for the cursor that was opened, so the same text is to come.
 -- Assumes nothing.
 use mathlib.Core.Path.{ap, _∙_}
+use borrow.Author.Needs.{needs}
 use denote.Ref.{now}
 use Rattle.listing.specs.Cursor.{to-come}
-use borrow.Author.Needs.{needs}
 use Rattle.vektrid.proofs.listings.vektrid_listing_open.Statement.{statement}
 use Rattle.vektrid.proofs.listings.vektrid_listing_open.Tie as tie
 

@@ -1,4 +1,4 @@
--- `points::vektrid_standard_point` meets its contract.
+-- `points::vektrid_standard_point`: the two coordinates of one equation.
 -- Assumes nothing.
 use mathlib.Core.Path.{ap}
 use Prim.Native.Nat.{ℕ}

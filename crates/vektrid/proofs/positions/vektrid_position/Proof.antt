@@ -1,4 +1,4 @@
--- `positions::vektrid_position` meets its contract.
+-- `positions::vektrid_position`: edges and positions are stored and read back as they were (`region-read`, `toZ-ofZ`).
 -- Assumes nothing.
 use mathlib.Core.Path.{_≡_, sym, ap, ap₂, _∙_}
 use Prim.Native.Nat.{ℕ}
@@ -8,8 +8,8 @@ use mir.Syntax.{w32}
 use mir.Val.{SFits, toZ, ofZ}
 use mir.ValLaws.{toZ-ofZ}
 use Rattle.stage.specs.Region.{of-placed}
-use Rattle.vektrid.specs.Regions.{region-position-outcome}
 use Rattle.answers.proofs.Outcomes.{refused-answer, refused-leaves, accepted-answer, accepted-hands}
+use Rattle.vektrid.specs.Regions.{region-position-outcome}
 use Rattle.vektrid.proofs.positions.vektrid_position.Statement.{statement}
 use Rattle.vektrid.proofs.positions.vektrid_position.Tie as tie
 

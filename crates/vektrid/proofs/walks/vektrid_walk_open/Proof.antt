@@ -1,9 +1,9 @@
--- `walks::vektrid_walk_open` meets its contract.
+-- `walks::vektrid_walk_open`: by the two cases of what opening gives.
 -- Assumes nothing.
 use mathlib.Core.Path.{sym, ap, _∙_}
+use borrow.Author.Needs.{needs}
 use Rattle.plan.specs.Walk.{of-opened}
 use Rattle.answers.proofs.Outcomes.{refused-answer, refused-leaves, accepted-answer, accepted-hands}
-use borrow.Author.Needs.{needs}
 use Rattle.vektrid.proofs.walks.vektrid_walk_open.Statement.{statement}
 use Rattle.vektrid.proofs.walks.vektrid_walk_open.Tie as tie
 

@@ -1,0 +1,36 @@
+-- `points::point`: once the pair is loaded, the outcome is accepted with what was made of the matrices (`gives`).
+-- Assumes nothing.
+use borrow.Author.Needs.{needs}
+use Rattle.net.specs.Sequence.{point}
+use Rattle.plan.specs.Pair.{sequence}
+use Rattle.answers.proofs.Outcomes.{refused-answer, refused-leaves, accepted-answer, accepted-hands}
+use Rattle.pair_calls.proofs.Loading.{stops, gives}
+use Rattle.pair_calls.proofs.points.point.Statement.{statement}
+use Rattle.pair_calls.proofs.points.point.Tie as tie
+
+pair-answer-requires : tie.Need-pair-answer-requires
+pair-answer-requires c κs = search needs
+
+returns : tie.Need-returns
+returns c =
+    let e = stops (c .before .before .before .args .words .now) (c .before .pair-answer .ensures) _ (c .if1 .taken) in
+    (refused-answer e, (refused-leaves e (λ p. p .0) _, refused-leaves e (λ p. p .1) _))
+
+pair-plan-requires : tie.Need-pair-plan-requires
+pair-plan-requires c κs = search needs
+
+point-requires : tie.Need-point-requires
+point-requires c κs = search needs
+
+returns-2 : tie.Need-returns-2
+returns-2 c =
+    let l = c .before in
+    let a = l .before .before .before .before .args in
+    let n = l .before .before .pair-answer .ensures in
+    let e = gives (a .words .now) n (l .before .if1 .left) (λ P. point (sequence P (record { x = a .shift-x; y = a .shift-y })) (a .index))
+    (l .pair-plan .ensures) (c .point .ensures) in
+    (accepted-answer e, (accepted-hands e (λ p. p .0) _, accepted-hands e (λ p. p .1) _))
+
+pub point-spec : {M : Type 1} → statement M
+point-spec =
+    tie.close (tie.spec pair-answer-requires returns pair-plan-requires point-requires returns-2)
