@@ -7,7 +7,12 @@ use Rattle.digits.proofs.Two as T
 use Rattle.digits.proofs.Reversed as R
 
 determined : {b : ℕ} → 1 < b → Determined b
-determined big = record { by-digits = D.ext big; by-lowest = D.ext-below big; from-digits-digit = D.digit-from-digits big; from-digits-below = D.from-digits-lt big }
+determined big = record {
+  by-digits = D.ext big;
+  by-lowest = D.ext-below big;
+  from-digits-digit = D.digit-from-digits big;
+  from-digits-below = D.from-digits-lt big;
+}
 
 digit-by-digit : {b : ℕ} → 1 < b → DigitByDigit b
 digit-by-digit big = record { plus-digit = A.digit-plus big; minus-digit = A.digit-minus big; times-digit = A.digit-times big }

@@ -101,7 +101,7 @@ fn four_lines(xs: [u32; 5], ys: [u32; 5]) {
     print::point_line(Point { x: xs[3], y: ys[3] });
 }
 
-// A fill of the first n and k places of two buffers, and then the first four places of both.
+// A fill of the first n and k words of two buffers, and then the first four words of both.
 fn fill_lines(start: u32, n: usize, k: usize) {
     let mut xs = [MARK; 5];
     let mut ys = [MARK; 5];

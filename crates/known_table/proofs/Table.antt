@@ -2,13 +2,13 @@
 use mathlib.Core.Path.{refl, sym, ap, subst}
 use lib.Count.{leadingZeros}
 use lib.Ieee.{ofBits, toBits}
+use Rattle.ranges.specs.Skip.{skip}
+use Rattle.ranges.specs.Search.{search}
 use Rattle.digits.specs.Digits.{digitwise, plus, times}
 use Rattle.digits.proofs.Two.{one-lt-two}
-use Rattle.ranges.specs.Skip.{skip}
 use Rattle.linear.specs.Matrix.{sum, det}
 use Rattle.net.specs.Generators.{product}
 use Rattle.net.specs.Shape.{matrix}
-use Rattle.ranges.specs.Search.{search}
 use Rattle.net.specs.Check.{least-index, first-a, first-m, check}
 use Rattle.net.specs.Query.{visit-index, locate}
 use Rattle.net.proofs.Standard.{iterate, add-down, iterated}

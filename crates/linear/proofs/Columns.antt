@@ -9,9 +9,9 @@ use native.Mathlib.Nat.{dvd-add, dvd-add-iff-right, dvd-add-iff-left, dvd-mul-le
 use native.Mathlib.Omega.{arith}
 use borrow.Author.Tests.{eq-eqb, ne-eqb}
 use Rattle.ranges.specs.Skip.{skip}
-use Rattle.linear.specs.Matrix.{Matrix, minor, set, with-column}
 use Rattle.ranges.proofs.Order.{lt-or-ge, eq-or-ne}
 use Rattle.ranges.proofs.Skip.{skip-below, skip-above}
+use Rattle.linear.specs.Matrix.{Matrix, minor, set, with-column}
 use Rattle.linear.proofs.Sum.{sum-pair}
 use Rattle.linear.proofs.Expand.{expand, det-lin}
 

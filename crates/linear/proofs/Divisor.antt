@@ -5,10 +5,10 @@ use Prim.Native.Nat.{ℕ, zero, suc, _+_, _-_, _*_, _/_, _%_, _^_, _≤_, _<_, _
 use native.Mathlib.Nat.{pow-zero, pow-suc, dvd-refl, dvd-trans, dvd-of-mod-eq-zero, mod-mod-of-dvd, mul-div-cancel', mul-add-mod-self-right}
 use native.Mathlib.Decide.{decLt, ℕ-discrete}
 use native.Mathlib.Omega.{arith}
+use Rattle.ranges.proofs.Order.{find}
 use Rattle.digits.proofs.Remainder.{mul-cong}
 use Rattle.linear.specs.Prime.{Prime}
 use Rattle.linear.specs.Matrix.{Matrix, minor, det}
-use Rattle.ranges.proofs.Order.{find}
 use Rattle.linear.proofs.Expand.{expand}
 use Rattle.linear.proofs.Modulo.{sum-cong, det-is}
 

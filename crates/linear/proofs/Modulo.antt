@@ -4,13 +4,13 @@ use mathlib.Core.Logic.{_⊎_, inl, inr, _≢_, _↔_}
 use Prim.Native.Nat.{ℕ, zero, suc, _+_, _-_, _*_, _%_, _^_, _<_, _∣_}
 use native.Mathlib.Nat.{mod-lt, mod-eq-of-lt, add-mod, mod-eq-zero-of-dvd, dvd-of-mod-eq-zero}
 use native.Mathlib.Omega.{arith}
-use Rattle.digits.proofs.Remainder.{mul-mod, mul-cong, add-cong}
-use Rattle.linear.specs.Prime.{Prime}
 use Rattle.ranges.specs.Skip.{skip}
-use Rattle.linear.specs.Matrix.{Matrix, sum, minor, det, image, with-column}
-use Rattle.linear.specs.Solution.{Kernel, Trivial}
 use Rattle.ranges.proofs.Order.{eq-or-ne}
 use Rattle.ranges.proofs.Skip.{skip-lt}
+use Rattle.digits.proofs.Remainder.{mul-mod, mul-cong, add-cong}
+use Rattle.linear.specs.Prime.{Prime}
+use Rattle.linear.specs.Matrix.{Matrix, sum, minor, det, image, with-column}
+use Rattle.linear.specs.Solution.{Kernel, Trivial}
 use Rattle.linear.proofs.Prime.{cancel}
 use Rattle.linear.proofs.Expand.{expand}
 use Rattle.linear.proofs.Columns.{put-at, put-off, put-lin, swap, equal}

@@ -5,8 +5,8 @@ use mathlib.Core.List.{[], _∷_, _++_}
 use Prim.Native.Nat.{ℕ}
 use lib.IntN.{ℤ, pos, negsuc}
 use Rattle.refusal.specs.Outcome.{accepted, refused}
-use Rattle.text.specs.Decimal.{decimal-in, number-text, signed-text}
 use Rattle.visits.specs.declared.file_walks.FileVisit.{FileVisit}
+use Rattle.text.specs.Decimal.{decimal-in, number-text, signed-text}
 use Rattle.listing.specs.Listing.{header, refused-text, line, lines, report}
 
 abbrev at : ℕ → ℕ → ℤ → ℤ → FileVisit

@@ -6,11 +6,11 @@ use Prim.Native.Nat.{ℕ, _+_, _≤_, _<_}
 use native.Mathlib.Omega.{arith}
 use lib.ListN.{length, take, drop, length-append}
 use lib.Seq.{drop-drop}
+use Rattle.visits.specs.declared.file_walks.FileVisit.{FileVisit}
 use Rattle.text.specs.Ascii.{line-feed, blank}
 use Rattle.text.specs.Decimal.{number-text, signed-text, longest-number, longest-signed}
 use Rattle.text.proofs.Puts.{Writes, WritesIfRoom, take-put, drop-put, writes-keeps-length, writes-then, from-if-room}
 use Rattle.text.proofs.Numbers.{number-length, number-longest, signed-longest}
-use Rattle.visits.specs.declared.file_walks.FileVisit.{FileVisit}
 use Rattle.listing.specs.Listing.{refused-word, refused-text, line, longest-line, lines}
 use Rattle.listing.specs.declared.cursors.Lead.{Lead}
 use Rattle.listing.specs.declared.cursors.Lead.the-variants as lead

@@ -1,8 +1,8 @@
 -- What is still to come from a cursor, whatever its fields and the file.
-use Prim.Native.Nat.{ℕ}
 use mathlib.Core.List.{List, [], _++_}
-use Rattle.text.specs.Pieces.{Piece}
+use Prim.Native.Nat.{ℕ}
 use Rattle.visits.specs.FileWalk.{visits-to-come}
+use Rattle.text.specs.Pieces.{Piece}
 use Rattle.listing.specs.declared.cursors.Lead.{Lead}
 use Rattle.listing.specs.declared.cursors.Lead.the-variants as lead
 use Rattle.listing.specs.declared.cursors.Cursor.{Cursor}

@@ -1,7 +1,7 @@
 -- Inner promise: what putting lines into a buffer has done.
-use Prim.Native.Nat.{ℕ, _+_, _≤_}
 use mathlib.Core.Path.{_≡_}
 use mathlib.Core.List.{List, [], _++_}
+use Prim.Native.Nat.{ℕ, _+_, _≤_}
 use lib.ListN.{length, take, drop}
 use Rattle.visits.specs.declared.file_walks.FileWalk.{FileWalk}
 use Rattle.visits.specs.FileWalk.{visits-to-come}

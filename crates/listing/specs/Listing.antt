@@ -1,11 +1,11 @@
 -- The listing of a region file, as bytes of ASCII.
-use Prim.Native.Nat.{ℕ, _+_}
 use mathlib.Core.List.{List, [], _∷_, _++_}
+use Prim.Native.Nat.{ℕ, _+_}
 use Rattle.refusal.specs.Outcome.{Outcome, accepted, refused}
-use Rattle.text.specs.Ascii.{line-feed, blank}
-use Rattle.text.specs.Decimal.{number-text, signed-text, longest-number, longest-signed}
 use Rattle.visits.specs.declared.file_walks.FileVisit.{FileVisit}
 use Rattle.visits.specs.Visits.{visits-outcome}
+use Rattle.text.specs.Ascii.{line-feed, blank}
+use Rattle.text.specs.Decimal.{number-text, signed-text, longest-number, longest-signed}
 
 -- "record visit x y" and a line feed
 abbrev pub header : List ℕ
@@ -27,7 +27,7 @@ line v = number-text (v .number) blank ++ (number-text (v .index) blank ++ (sign
 abbrev pub longest-line : ℕ
 longest-line = longest-number + longest-number + longest-signed + longest-signed
 
--- one after the other
+-- the lines of visits, one after the other
 unfoldable pub lines : List FileVisit → List ℕ
 lines [] = []
 lines (v ∷ vs) = line v ++ lines vs

@@ -1,7 +1,7 @@
 -- What users rely on: the pieces of a file's listing, joined, are the listing.
-use Prim.Native.Nat.{ℕ, _≤_}
 use mathlib.Core.Path.{_≡_}
 use mathlib.Core.List.{List, [], _++_}
+use Prim.Native.Nat.{ℕ, _≤_}
 use Rattle.text.specs.Pieces.{join, Pieces}
 use Rattle.listing.specs.declared.cursors.Cursor.{Cursor}
 use Rattle.listing.specs.Listing.{listing, longest-line}

@@ -1,4 +1,4 @@
-// Where a listing stands, and its next piece.
+// A cursor in a listing: what is still to come, and the next piece of it.
 use crate::lines::LONGEST_LINE;
 use crate::lines::put_lines;
 use visits::FileWalk;

@@ -6,12 +6,12 @@ use Prim.Native.Nat.{ℕ, zero, suc, _+_, _*_, _/_, _%_, _≤_, _<_, _∣_}
 use native.Mathlib.Nat.{mul-zero, mul-one, dvd-zero, dvd-of-mod-eq-zero, mod-eq-zero-of-dvd}
 use native.Mathlib.Omega.{arith}
 use lib.Bits.{bitXor}
+use Rattle.ranges.proofs.Order.{lt-or-ge}
 use Rattle.digits.specs.Digits.{digit}
 use Rattle.digits.proofs.Digit.{digit-lt, digit-zero}
 use Rattle.digits.proofs.Two.{one-lt-two, digit-xor}
 use Rattle.linear.specs.Matrix.{Matrix, sum, image, det}
 use Rattle.linear.specs.Solution.{Trivial}
-use Rattle.ranges.proofs.Order.{lt-or-ge}
 use Rattle.linear.proofs.Prime.{two}
 use Rattle.linear.proofs.Sum.{sum-ext, sum-at}
 use Rattle.linear.proofs.Modulo.{nonzero-iff}

@@ -7,9 +7,9 @@ use native.Mathlib.Numerals.{add-one}
 use native.Mathlib.Omega.{arith}
 use borrow.Author.Tests.{lt-ltb, le-ltb}
 use lib.ListN.{getD}
+use Rattle.ranges.proofs.Order.{lt-or-ge}
 use Rattle.digits.specs.Digits.{digit}
 use Rattle.linear.specs.Matrix.{Matrix}
-use Rattle.ranges.proofs.Order.{lt-or-ge}
 use Rattle.net.specs.Generators.{entry}
 use Rattle.net.specs.Shape.{matrix}
 use Rattle.net.specs.Check.{NoneBefore}

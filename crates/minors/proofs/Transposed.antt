@@ -8,10 +8,10 @@ use native.Mathlib.Omega.{arith}
 use lib.ListN.{length, getD, set}
 use lib.Pow.{pow-mono}
 use lib.Seq.{getD-set-same, getD-set-other}
+use Rattle.ranges.proofs.Order.{lt-or-ge}
 use Rattle.digits.specs.Digits.{digit}
 use Rattle.digits.proofs.Digit.{pow-pos, digit-cons-low, digit-cons-suc}
 use Rattle.digits.proofs.Two.{one-lt-two}
-use Rattle.ranges.proofs.Order.{lt-or-ge}
 
 -- the bits d c, d (c + 1), .., d 31 are in the word
 pub record From (d : ℕ → ℕ) (c word : ℕ) : Type 0 where

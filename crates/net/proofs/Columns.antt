@@ -11,18 +11,18 @@ use native.Mathlib.Omega.{arith}
 use borrow.Author.Tests.{lt-ltb, le-ltb, eq-eqb, ne-eqb}
 use lib.Arith.{digits-div, digits-mod}
 use lib.Dec.{eqb}
+use Rattle.ranges.specs.Range.{range}
+use Rattle.ranges.specs.Count.{indicator}
+use Rattle.ranges.proofs.Order.{lt-or-ge}
+use Rattle.ranges.proofs.Below.{below-map}
 use Rattle.digits.specs.Digits.{digit, reversed, plus}
 use Rattle.digits.proofs.Digit.{pow-pos, pow-one, pow-lt, pow-div, digit-suc, digit-high, digit-zero, digit-from-digits, from-digits-lt}
 use Rattle.digits.proofs.Digit.{ext-below, mod-pow-suc}
 use Rattle.digits.proofs.Arithmetic.{digit-plus, plus-lt, plus-split, times-pow}
 use Rattle.digits.proofs.Reversed.{reversed-lt, reversed-zero, reversed-more, reversed-suc, reversed-mod, reversed-twice}
-use Rattle.ranges.proofs.Order.{lt-or-ge}
 use Rattle.net.specs.Generators.{Generators, Valid, product}
-use Rattle.ranges.specs.Range.{range}
-use Rattle.ranges.specs.Count.{indicator}
 use Rattle.net.specs.Elimination.{Additive}
 use Rattle.net.specs.Standard.{binomial, identity-column, pascal-column, standard}
-use Rattle.ranges.proofs.Below.{below-map}
 use Rattle.net.proofs.Product.{product-lt, product-map}
 use Rattle.net.proofs.Standard.{iterate, add-down, iterated, x₀-lt, horner, move-down-additive}
 

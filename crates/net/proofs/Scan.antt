@@ -40,9 +40,11 @@ module _ (G : Generators) where
 module _ {G : Generators} (valid : Valid G) (prime : Prime (G .b)) (M : ℕ) (fits : M ≤ G .R) where
   -- all shapes up to the level are cleared, or the first that is not has a least j
   pub scan-all : (m a : ℕ) → M < m → NoneBefore G m a → check G M ≡ passed
-  scan-all m a beyond none-before = checked valid prime M fits .passed-iff .1 (record { nonzero = λ n d p h l. none-before n d p l (inl (omega arith)) })
+  scan-all m a beyond none-before =
+      checked valid prime M fits .passed-iff .1 (record { nonzero = λ n d p h l. none-before n d p l (inl (omega arith)) })
 
   pub scan-stops : (m a j : ℕ) → 0 < m → m ≤ M → a ≤ m → NoneBefore G m a → Least (plain G) m a j → check G M ≡ refused m a j
   scan-stops m a j p h l none-before least =
       let z = zero-of-crowded (record { valid = valid; wide = l; fits = omega arith }) prime (crowded-of-least (plain G) m a j least) in
-      checked valid prime M fits .refused-zero-iff m a j .1 (record { positive = p; within = h; wide = l; zero = z; none-before = none-before }, least)
+      checked valid prime M fits .refused-zero-iff m a j .1
+      (record { positive = p; within = h; wide = l; zero = z; none-before = none-before }, least)

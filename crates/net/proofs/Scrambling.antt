@@ -7,12 +7,12 @@ use native.Mathlib.Nat.{div-one, mod-lt, div-add-mod', div-div-eq-div-mul, div-e
 use native.Mathlib.Nat.{add-zero}
 use native.Mathlib.Omega.{arith}
 use lib.Arith.{digits-div, digits-lt}
+use Rattle.ranges.specs.Unique.{Only}
+use Rattle.ranges.proofs.Pigeon.{onto}
 use Rattle.digits.specs.Digits.{digit, plus, minus}
 use Rattle.digits.proofs.Remainder.{join-high, join-low, take-back, add-back}
 use Rattle.digits.proofs.Digit.{pow-pos, digit-lt, div-suc, join-lt}
 use Rattle.digits.proofs.Arithmetic.{plus-zero, plus-lt, plus-div, plus-cancel, minus-plus, minus-lt, minus-div}
-use Rattle.ranges.specs.Unique.{Only}
-use Rattle.ranges.proofs.Pigeon.{onto}
 use Rattle.net.specs.Generators.{Generators}
 use Rattle.net.specs.Sequence.{Sequence, Fits, top, column, row, VisitIn}
 use Rattle.net.specs.Scrambling.{Scrambling, scrambled, plain, PrefixBijection, Lawful, RightInverse, prefix-before, shifted}

@@ -8,18 +8,18 @@ use native.Mathlib.Nat.{zero-add, mod-mod, zero-mod, mod-mod-of-dvd}
 use native.Mathlib.Omega.{arith}
 use borrow.Author.Tests.{lt-ltb, le-ltb}
 use lib.ListN.{getD, List·getD-eq-default}
-use Rattle.digits.specs.Digits.{digit, plus}
+use Rattle.ranges.specs.Range.{range}
 use Rattle.ranges.proofs.Order.{lt-or-ge}
+use Rattle.ranges.proofs.Range.{length-each, getD-each}
+use Rattle.digits.specs.Digits.{digit, plus}
 use Rattle.linear.proofs.Modulo.{det-mod}
 use Rattle.linear.proofs.Divisor.{prime-divisor, det-divisor}
 use Rattle.net.specs.Generators.{Generators, entry}
 use Rattle.net.specs.Sequence.{Alone}
 use Rattle.net.specs.Scrambling.{plain}
 use Rattle.net.specs.Shape.{Shape, matrix, determinant}
-use Rattle.ranges.specs.Range.{range}
 use Rattle.net.specs.Standard.{binomial, identity-column, pascal-column, standard}
 use Rattle.net.specs.Net.{StandardMatrices}
-use Rattle.ranges.proofs.Range.{length-each, getD-each}
 use Rattle.net.proofs.Shape.{alone-iff, apart-of-alone}
 use Rattle.net.proofs.Net.{stratified}
 use Rattle.net.proofs.Standard.{alone}

@@ -3,8 +3,8 @@ use mathlib.Core.Path.{_≡_}
 use mathlib.Core.Logic.{_≢_, _↔_}
 use Prim.Native.Nat.{ℕ, suc, _+_, _-_, _*_, _/_, _%_, _^_, _≤_, _<_}
 use lib.ListN.{getD}
-use Rattle.digits.specs.Digits.{reversed, plus}
 use Rattle.ranges.specs.Unique.{Only}
+use Rattle.digits.specs.Digits.{reversed, plus}
 use Rattle.net.specs.Generators.{Generators, Valid, entry, product}
 use Rattle.net.specs.Sequence.{VisitIn, Finds, column-less, row-less, Apart, Alone}
 use Rattle.net.specs.Scrambling.{Scrambling, plain, digital, Lawful, shifted}
@@ -40,8 +40,8 @@ pub record Net (G : Generators) (M : ℕ) : Type 0 where
   pub one-hit : (F : Scrambling) → Lawful (G .b) (G .R) F → (m a k c r : ℕ) → m ≤ M → a ≤ m → c < G .b ^ a → r < G .b ^ (m - a)
       → hits (digital G F) m a c r (run (digital G F) m k) ≡ 1
 
--- identity and Pascal's triangle modulo b, with n columns: the first from its rule by powers and as the reversal of the index, the
--- second from its binomials; each column from the one before; and they pass every shape
+-- Identity and Pascal's triangle modulo b, with n columns. The columns of the first are powers of b, and its product is the reversal of the
+-- index; the entries of the second are binomials. Each column follows from the one before. Both together pass every shape.
 pub record StandardMatrices (b R n : ℕ) : Type 0 where
   pub identity : (c : ℕ) → c < R → getD (standard b R n .X) c 0 ≡ b ^ (R - suc c)
   pub identity-beyond : (c : ℕ) → R ≤ c → getD (standard b R n .X) c 0 ≡ 0

@@ -1,10 +1,10 @@
 -- The query: the index of a block that visits an interval, or the shape is no net.
 use Prim.Native.Nat.{ℕ, zero, suc, _+_, _*_, _^_}
+use Rattle.ranges.specs.Search.{search}
 use Rattle.net.specs.Generators.{Generators}
 use Rattle.net.specs.Sequence.{Sequence, lies}
 use Rattle.net.specs.Scrambling.{Scrambling, plain, digital}
 use Rattle.net.specs.Shape.{determinant}
-use Rattle.ranges.specs.Search.{search}
 use Rattle.net.specs.Check.{least-index}
 
 -- the first index of block k in column c and row r; where there is none, the first of the next block

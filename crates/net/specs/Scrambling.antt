@@ -51,7 +51,7 @@ pub record RightInverse (b R : ℕ) (f g : ℕ → ℕ) : Type 0 where
   pub fits : (w : ℕ) → w < b ^ R → g w < b ^ R
   pub back : (w : ℕ) → w < b ^ R → f (g w) ≡ w
 
--- then number c of the t highest digits after f comes from this number of the t highest before f
+-- where g is a right inverse of f: t digits that f sends to the t highest digits c
 abbrev pub prefix-before : ℕ → ℕ → (ℕ → ℕ) → ℕ → ℕ → ℕ
 prefix-before b R g t c = top b R t (g (c * b ^ (R - t)))
 
@@ -65,7 +65,7 @@ abbrev pub shifted : Generators → ℕ → ℕ → Sequence
 shifted G s t = digital G (shift (G .b) s t)
 
 -- Nested (Owen's) scrambling: digit t from the top goes through `permute t p`, p being the t digits above it before any change.
--- Here the t highest digits; a scrambling is all R of them.
+-- This is the number of the t highest digits after it; the scrambling of a whole word has t = R.
 unfoldable pub nested : (b R : ℕ) → (ℕ → ℕ → ℕ → ℕ) → ℕ → ℕ → ℕ
 nested b R permute zero w = 0
 nested b R permute (suc t) w = nested b R permute t w * b + permute t (top b R t w) (digit b (R - suc t) w)

@@ -3,8 +3,8 @@ use mathlib.Core.Path.{_≡_}
 use mathlib.Core.List.{List}
 use Prim.Native.Nat.{ℕ, suc, _-_, _*_, _%_, _^_, _≤_, _<_}
 use lib.ListN.{length, getD}
-use Rattle.digits.specs.Digits.{digit, plus, minus}
 use Rattle.ranges.specs.Unique.{Only}
+use Rattle.digits.specs.Digits.{digit, plus, minus}
 use Rattle.linear.specs.Matrix.{sum}
 use Rattle.net.specs.Generators.{entry, product}
 use Rattle.net.specs.Sequence.{Sequence, top, VisitIn}
@@ -18,8 +18,8 @@ pub record MatrixProduct (b R : ℕ) (C : List ℕ) : Type 0 where
   pub additive : Additive b (product b C)
   pub columns : (c : ℕ) → product b C (b ^ c) ≡ getD C c 0
 
--- what obeys the law of a scrambling: nothing, a digital shift, nested scrambling (by additions for one), one after the other; and each
--- prefix is taken
+-- What obeys the law of a scrambling: no change, a digital shift, nested scrambling (by additions among others), and one scrambling after
+-- another. Each prefix is then taken.
 pub record LawfulScramblings (b R : ℕ) : Type 0 where
   pub unchanged : PrefixBijection b R (λ w. w)
   pub shift : (s : ℕ) → s < b ^ R → PrefixBijection b R (λ w. plus b w s)
@@ -28,8 +28,8 @@ pub record LawfulScramblings (b R : ℕ) : Type 0 where
   pub composed : (f g : ℕ → ℕ) → PrefixBijection b R f → PrefixBijection b R g → PrefixBijection b R (λ w. g (f w))
   pub onto : (f : ℕ → ℕ) → PrefixBijection b R f → (t c : ℕ) → t ≤ R → c < b ^ t → (w : ℕ) × (w < b ^ R) × (top b R t (f w) ≡ c)
 
--- what undoes a scrambling: a shift is undone by the difference (and before it number c of t digits was c less those of the shift), nested
--- scrambling by leading back from the top
+-- What undoes a scrambling. A shift is undone by the difference, so that t highest digits c were c less the t highest digits of the shift.
+-- Nested scrambling is undone digit by digit from the top.
 pub record UndoneScramblings (b R : ℕ) : Type 0 where
   pub shift : (s : ℕ) → s < b ^ R → RightInverse b R (λ w. plus b w s) (λ w. minus b w s)
   pub before-shift : (s t c : ℕ) → prefix-before b R (λ w. minus b w s) t c ≡ minus b c (top b R t s)

@@ -4,8 +4,8 @@ use mathlib.Core.Logic.{_≢_}
 use mathlib.Core.Bool.{Bool, _&&_}
 use Prim.Native.Nat.{ℕ, _+_, _-_, _*_, _/_, _^_, _≤_, _<_}
 use lib.Dec.{eqb}
-use Rattle.digits.specs.Digits.{minus}
 use Rattle.ranges.specs.Unique.{Only}
+use Rattle.digits.specs.Digits.{minus}
 
 -- for each index a point, by its two coordinates of R digits in base b
 pub record Sequence : Type 0 where

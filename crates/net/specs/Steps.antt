@@ -2,9 +2,9 @@
 use mathlib.Core.Path.{_≡_}
 use Prim.Native.Nat.{ℕ, _+_, _-_, _*_, _^_, _<_, min}
 use lib.ListN.{take, drop}
+use Rattle.ranges.specs.Walk.{answers, visits-given}
 use Rattle.net.specs.Sequence.{Sequence, Finds}
 use Rattle.net.specs.Run.{visit, visits, run, hits}
-use Rattle.ranges.specs.Walk.{answers, visits-given}
 
 -- Where a block visits each interval once, its run has one visit in each. The n visits from index p of a block on, as far as they go
 -- into the block, are the run from there.

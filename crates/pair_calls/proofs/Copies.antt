@@ -4,9 +4,9 @@ use mathlib.Core.Path.{_≡_, sym, ap, ap₂, _∙_}
 use mathlib.Core.List.{List, _++_, append-nil}
 use Prim.Native.Nat.{ℕ, _-_}
 use native.Mathlib.Nat.{le-of-eq}
+use borrow.Rule.Slice.PartMut.{putMid}
 use lib.ListN.{length, take, drop, length-drop, drop-of-length-le}
 use lib.Seq.{take-append-seam}
-use borrow.Rule.Slice.PartMut.{putMid}
 
 -- the second half behind the first
 pub halves : (n : ℕ) (x y rest : List ℕ) → length x ≡ n → putMid n (length (x ++ rest) - n) (x ++ rest) y ≡ x ++ y

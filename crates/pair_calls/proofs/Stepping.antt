@@ -7,9 +7,9 @@ use Prim.Native.Nat.{ℕ}
 use Rattle.ranges.specs.Walk.{Walk, Answer, visited, ended, Stepped, step}
 use Rattle.net.specs.Sequence.{Sequence}
 use Rattle.refusal.specs.Outcome.{Outcome, accepted}
+use Rattle.word.specs.Index.{last-index}
 use Rattle.plan.specs.declared.pair.Plan.{Plan}
 use Rattle.plan.specs.Pair.{sequence, load-outcome, loaded}
-use Rattle.word.specs.Index.{last-index}
 use Rattle.answers.specs.Answers.{answer-number, StepWords, step-words, left-by-step, left-in}
 use Rattle.answers.proofs.Outcomes.{refused-answer, refused-leaves, accepted-answer, accepted-hands}
 use Rattle.pair_calls.specs.Calls.{pair-points, of-pair}

@@ -6,8 +6,8 @@ use mathlib.Core.List.{List, [], map}
 use Prim.Native.Nat.{ℕ}
 use borrow.Author.Tests.{eq-eqb, ne-eqb}
 use lib.ListN.{length}
-use Rattle.net.specs.Sequence.{Sequence}
 use Rattle.ranges.specs.Range.{range}
+use Rattle.net.specs.Sequence.{Sequence}
 use Rattle.refusal.specs.Outcome.{accepted, refused}
 use Rattle.refusal.proofs.First.{first-none, first-refuses, first-passes, granted-accepted, granted-refused}
 use Rattle.plan.specs.Range.{past-last}
@@ -26,7 +26,8 @@ module _ (n start : ℕ) (xs ys : List ℕ) where
       first-passes (accepted tt) 8 _ (ap not (eq-eqb (length xs) (length ys) e)) ∙ first-passes (accepted tt) 9 [] h ∙ first-none (accepted tt)
 
   module _ (S : Sequence) where
-    pub kept : {number : ℕ} {values : List ℕ} → fill-outcome n start xs ys ≡ refused number values → filled n S start xs ys ≡ record { x = xs; y = ys }
+    pub kept : {number : ℕ} {values : List ℕ} → fill-outcome n start xs ys ≡ refused number values
+        → filled n S start xs ys ≡ record { x = xs; y = ys }
     kept e = granted-refused _ _ e
 
     pub written : fill-outcome n start xs ys ≡ accepted tt

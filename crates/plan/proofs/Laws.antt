@@ -3,12 +3,12 @@ use mathlib.Core.Path.{_≡_, ap, ap₂}
 use mathlib.Core.List.{List}
 use Prim.Native.Nat.{ℕ, _^_, _<_}
 use lib.ListN.{getD}
+use Rattle.ranges.specs.Walk.{Walk, Stepped, visited}
+use Rattle.ranges.proofs.Below.{below-of}
 use Rattle.digits.proofs.Two.{one-lt-two}
 use Rattle.net.specs.Generators.{Valid}
 use Rattle.net.specs.Sequence.{Sequence, point}
 use Rattle.net.specs.Run.{Visit, visit}
-use Rattle.ranges.specs.Walk.{Walk, Stepped, visited}
-use Rattle.ranges.proofs.Below.{below-of}
 use Rattle.word.specs.Matrices.{pair}
 
 -- a point by its coordinates

@@ -6,17 +6,17 @@ use Prim.Native.Nat.{ℕ, zero, suc, _+_, _≤_, min}
 use borrow.Author.Tests.{ltb-false, not-false, eqb-true}
 use lib.Dec.{eqb, ltb}
 use lib.ListN.{length}
-use Rattle.net.specs.Sequence.{Sequence}
 use Rattle.ranges.specs.Range.{range}
-use Rattle.net.specs.Run.{Visit, visit, visits}
 use Rattle.ranges.specs.Walk.{Walk, answers, given, visits-given}
 use Rattle.ranges.specs.Theorem.{Walked}
 use Rattle.ranges.proofs.Walk as ranges
 use Rattle.ranges.proofs.Walk.{visits-given-is, list-within}
+use Rattle.net.specs.Sequence.{Sequence}
+use Rattle.net.specs.Run.{Visit, visit, visits}
 use Rattle.refusal.specs.Outcome.{accepted, first}
 use Rattle.refusal.proofs.First.{first-none, first-accepted}
-use Rattle.plan.specs.Fill.{fill-outcome, filled}
 use Rattle.word.specs.Index.{index-count, last-index}
+use Rattle.plan.specs.Fill.{fill-outcome, filled}
 use Rattle.plan.specs.Walk.{open-outcome}
 use Rattle.plan.specs.Lists.{paired, held, visits-walked}
 use Rattle.plan.proofs.Filling.{written}

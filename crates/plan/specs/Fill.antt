@@ -4,8 +4,8 @@ use mathlib.Core.List.{List, [], _∷_, map}
 use Prim.Native.Nat.{ℕ}
 use lib.Dec.{eqb}
 use lib.ListN.{length}
-use Rattle.net.specs.Sequence.{Sequence}
 use Rattle.ranges.specs.Range.{range}
+use Rattle.net.specs.Sequence.{Sequence}
 use Rattle.refusal.specs.Outcome.{Outcome, accepted, Test, first, granted}
 use Rattle.plan.specs.Range.{past-last}
 

@@ -1,10 +1,10 @@
 -- What point calls, a fill and the steps of a walk give, as lists of visits.
 use mathlib.Core.List.{List, [], _∷_, map}
 use Prim.Native.Nat.{ℕ, suc}
-use Rattle.net.specs.Sequence.{Sequence, point}
 use Rattle.ranges.specs.Range.{range}
-use Rattle.net.specs.Run.{Visit, visit}
 use Rattle.ranges.specs.Walk.{Walk, answers, visits-given}
+use Rattle.net.specs.Sequence.{Sequence, point}
+use Rattle.net.specs.Run.{Visit, visit}
 use Rattle.word.specs.Index.{last-index}
 use Rattle.plan.specs.Fill.{Buffers}
 

@@ -1,8 +1,8 @@
--- What opening a walk comes to, and the code's walks, visits and steps as those of net.
+-- What opening a walk comes to, and the code's walks, visits and steps as the definitions have them.
 use mathlib.Core.List.{[], _∷_}
 use Prim.Native.Nat.{ℕ}
-use Rattle.net.specs.Run.{Visit}
 use Rattle.ranges.specs.Walk.{Walk, Answer, visited, ended, Stepped}
+use Rattle.net.specs.Run.{Visit}
 use Rattle.refusal.specs.Outcome.{Outcome, accepted, first}
 use Rattle.refusal.specs.Refusal.{of-refusal}
 use Rattle.plan.specs.Range.{past-last}

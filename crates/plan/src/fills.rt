@@ -10,8 +10,8 @@ ghost use Rattle.word.specs.Index.{index-count};
 ghost use Rattle.plan.specs.Pair.{sequence};
 ghost use Rattle.plan.specs.Fill.{fill-outcome, filled};
 
-// Writes the points of the indexes from start on, as many as the buffers have room for. A refused call writes nothing. The shift goes along
-// with the products: added to the first of them, it is in all that are made from it.
+// Writes the points of the indexes from start on, as many as the buffers have room for. A refused call writes nothing. A digital
+// shift may be added to the first product of a fill: each product is made from the one before it, so the shift is in all of them.
 pub fn fill(plan: Plan, shift: Shift, start: Index, xs: &mut [u32], ys: &mut [u32]) -> Judgement
     ensures answer { λ r. ⌜ of-judgement r ≡ fill-outcome index-count start (now (xs .entry)) (now (ys .entry)) ⌝ }
     ensures first { λ r. ⌜ now (xs .exit) ≡ filled index-count (sequence plan shift) start (now (xs .entry)) (now (ys .entry)) .x ⌝ }

@@ -6,22 +6,22 @@ use Prim.Native.Nat.{ℕ, zero, suc, _+_, _*_, _/_, _%_, _^_, _≤_, _<_}
 use native.Mathlib.Nat.{zero-add, div-add-mod'}
 use native.Mathlib.Numerals.{add-one}
 use native.Mathlib.Omega.{arith}
-use lib.Bits.{bitXor}
 use borrow.Rule.Slice.PartMut.{putMid}
+use lib.Bits.{bitXor}
 use lib.Count.{trailingZeros}
 use lib.ListN.{length, getD, set}
+use Rattle.ranges.specs.Range.{range}
+use Rattle.ranges.proofs.Range.{getD-each}
+use Rattle.ranges.proofs.Filled.{Filled, filled-none, filled-more, filled-part, filled-all}
 use Rattle.digits.specs.Digits.{plus}
 use Rattle.digits.proofs.Arithmetic.{plus-comm, plus-assoc, plus-zero, plus-split}
 use Rattle.digits.proofs.Two.{one-lt-two, plus-two}
 use Rattle.net.specs.Generators.{product}
-use Rattle.ranges.specs.Range.{range}
 use Rattle.net.proofs.Product.{product-plus}
-use Rattle.ranges.proofs.Range.{getD-each}
 use Rattle.net.proofs.Two.{trailing-zeros-lowest}
-use Rattle.products.specs.Products.{offset-product}
 use Rattle.word.specs.Prefix.{ones, prefixes}
-use Rattle.ranges.proofs.Filled.{Filled, filled-none, filled-more, filled-part, filled-all}
 use Rattle.word.proofs.Prefix.{product-next, trailing-zeros-below}
+use Rattle.products.specs.Products.{offset-product}
 
 module _ (C : List ℕ) (s : ℕ) where
   -- what is added to the product before the shift may be added after it

@@ -5,9 +5,9 @@ use Prim.Native.Nat.{ℕ, suc, _+_, _≤_, _<_}
 use native.Mathlib.Nat.{zero-add}
 use native.Mathlib.Numerals.{add-one}
 use native.Mathlib.Omega.{arith}
+use borrow.Rule.Slice.PartMut.{putMid, postOf, same-len-mid}
 use lib.ListN.{length, take, drop, set, length-append, length-set, length-drop}
 use lib.Seq.{take-suc-set, take-all, take-at, length-take-le}
-use borrow.Rule.Slice.PartMut.{putMid, postOf, same-len-mid}
 use Rattle.ranges.specs.Range.{range}
 use Rattle.ranges.proofs.Range.{each-suc, length-each, range-add}
 

@@ -1,14 +1,14 @@
 -- The limits of a region, one by one, and edges and positions as the machine reads them back.
 -- Assumes nothing.
 use mathlib.Core.Path.{_≡_, refl, sym, ap, _∙_}
-use Prim.Native.Nat.{ℕ, _≤_, _<_}
 use mathlib.Core.Bool.{Bool, true, false, _&&_, not, true≢false}
+use Prim.Native.Nat.{ℕ, _≤_, _<_}
+use borrow.Author.Tests.{ltb-false, not-true}
 use lib.Dec.{ltb}
 use lib.IntN.{ℤ}
 use mir.Syntax.{w32}
 use mir.Val.{SFits, ofZ, toZ}
 use mir.ValLaws.{toZ-ofZ}
-use borrow.Author.Tests.{ltb-false, not-true}
 use Rattle.stage.specs.declared.regions.Region.{Region}
 use Rattle.stage.specs.Position.{edge-within, extent-within, position, largest-extent}
 use Rattle.stage.specs.Region.{within}

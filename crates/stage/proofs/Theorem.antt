@@ -1,8 +1,8 @@
 -- What users rely on. The position lies in the region because the offset is below the extent.
 -- Assumes nothing.
+use mathlib.Core.Path.{subst}
 use Prim.Native.Nat.{ℕ, suc, _*_, _^_, _<_}
 use native.Mathlib.Nat.{div-mul-le-self, div-lt-iff-lt-mul, mul-lt-mul-of-pos-right, mul-comm, le-refl}
-use mathlib.Core.Path.{subst}
 use lib.Dec.{lit<}
 use lib.IntN.{ℤ}
 use Rattle.stage.specs.Position.{offset, position}

@@ -4,16 +4,16 @@ use mathlib.Core.List.{List}
 use Prim.Native.Nat.{ℕ, _+_, _-_, _*_, _^_, _<_}
 use native.Mathlib.Nat.{lt-of-lt-of-le}
 use lib.Pow.{pow-mono}
-use Rattle.digits.proofs.Two.{one-lt-two}
 use Rattle.ranges.specs.Unique.{Only}
+use Rattle.digits.proofs.Two.{one-lt-two}
 use Rattle.net.specs.Sequence.{Fits, VisitIn}
 use Rattle.net.specs.Scrambling.{plain, shifted}
 use Rattle.net.specs.Shape.{Shape}
 use Rattle.net.specs.Elimination.{BasisEntry, interval, solve, plain-interval, basis-index}
+use Rattle.net.specs.Answers.{Solved}
 use Rattle.net.proofs.Interval.{plain-fits, plain-interval-lt}
 use Rattle.net.proofs.Scrambling.{shift-lawful, scrambled-fits}
 use Rattle.word.specs.Matrices.{pair}
-use Rattle.net.specs.Answers.{Solved}
 
 module _ {x y : List ℕ} {m a : ℕ} (shape : Shape (pair x y) m a) (s t : ℕ) (hs : s < 2 ^ 32) (ht : t < 2 ^ 32)
     (k c r : ℕ) (hc : c < 2 ^ a) (hr : r < 2 ^ (m - a)) where

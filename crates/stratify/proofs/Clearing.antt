@@ -9,9 +9,9 @@ use lib.Bits.{bitAnd, bitXor, and-zero-r, and-mask, and-high}
 use lib.Count.{trailingZeros}
 use lib.ListN.{length, getD, set, length-set}
 use lib.Seq.{getD-set-same, getD-set-other}
+use Rattle.ranges.proofs.Order.{lt-or-ge}
 use Rattle.digits.proofs.Digit.{pow-pos, pow-one}
 use Rattle.digits.proofs.Two.{one-lt-two}
-use Rattle.ranges.proofs.Order.{lt-or-ge}
 use Rattle.word.proofs.Turn.{one-shifted}
 use Rattle.stratify.specs.Basis.{added, Clears, Stays}
 

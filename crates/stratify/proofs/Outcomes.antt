@@ -13,8 +13,8 @@ use Rattle.refusal.proofs.First.{first-none, first-passes, accepted-refused}
 use Rattle.plan.specs.declared.pair.Plan.{Plan}
 use Rattle.plan.specs.declared.points.Shift.{Shift}
 use Rattle.plan.specs.Pair.{generators, scrambling, loaded, Level}
-use Rattle.stratify.specs.Answers.{of-verdict, check-outcome, of-location, query-outcome, Cell}
 use Rattle.plan.proofs.Level.{level-known}
+use Rattle.stratify.specs.Answers.{of-verdict, check-outcome, of-location, query-outcome, Cell}
 use Rattle.stratify.proofs.Tests.{cell-within}
 
 -- ---- past the tests

@@ -9,11 +9,11 @@ use native.Mathlib.Omega.{arith}
 use lib.Count.{trailingZeros}
 use lib.ListN.{length, getD, set, replicate, length-set}
 use lib.Seq.{getD-set-same, getD-set-other}
+use Rattle.ranges.proofs.Order.{lt-or-ge}
 use Rattle.digits.specs.Digits.{plus, minus}
 use Rattle.digits.proofs.Arithmetic.{zero-plus}
 use Rattle.digits.proofs.Two.{one-lt-two}
 use Rattle.linear.proofs.Prime.{two}
-use Rattle.ranges.proofs.Order.{lt-or-ge}
 use Rattle.net.specs.Scrambling.{plain}
 use Rattle.net.specs.Shape.{Shape}
 use Rattle.net.specs.Sequence.{Least}

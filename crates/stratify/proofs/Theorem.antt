@@ -8,11 +8,15 @@ use borrow.Author.Tests.{not-false, eqb-true}
 use lib.Bits.{bitXor}
 use lib.Dec.{eqb}
 use lib.ListN.{length, take}
+use Rattle.ranges.specs.Unique.{Only, One}
+use Rattle.ranges.specs.Below.{Below}
+use Rattle.ranges.specs.Walk.{Walk}
+use Rattle.ranges.proofs.Below.{below-take, below-drop}
+use Rattle.ranges.proofs.Range.{take-each}
+use Rattle.ranges.proofs.Theorem as ranges
 use Rattle.digits.specs.Digits.{minus}
 use Rattle.digits.proofs.Two.{one-lt-two, minus-two}
-use Rattle.ranges.specs.Unique.{Only, One}
 use Rattle.linear.proofs.Prime.{two}
-use Rattle.ranges.specs.Below.{Below}
 use Rattle.net.specs.Generators.{Valid}
 use Rattle.net.specs.Sequence.{Sequence, column, row, VisitIn}
 use Rattle.net.specs.Scrambling.{plain, Lawful}
@@ -23,27 +27,24 @@ use Rattle.net.specs.Net.{Net}
 use Rattle.net.specs.Answers.{Located, CheckDecides}
 use Rattle.net.specs.Run.{Visit, visit, visits, run, hits}
 use Rattle.net.specs.Standard.{standard}
-use Rattle.ranges.proofs.Below.{below-take, below-drop}
 use Rattle.net.proofs.Scrambling.{shift-lawful}
 use Rattle.net.proofs.Least.{least-index-least}
 use Rattle.net.proofs.Check.{nonzero}
 use Rattle.net.proofs.Query.{locate-found}
-use Rattle.ranges.proofs.Range.{take-each}
-use Rattle.ranges.proofs.Theorem as ranges
 use Rattle.net.proofs.Theorem as net
 use Rattle.refusal.specs.Outcome.{accepted}
 use Rattle.refusal.proofs.First.{first-accepted}
+use Rattle.word.specs.Index.{index-count, last-index}
 use Rattle.plan.specs.declared.pair.Plan.{Plan}
 use Rattle.plan.specs.declared.points.Shift.{Shift}
 use Rattle.plan.specs.Pair.{generators, scrambling, sequence, largest-level, unknown-level, Level, loaded}
-use Rattle.word.specs.Index.{index-count, last-index}
 use Rattle.plan.specs.Lists.{visits-walked}
-use Rattle.ranges.specs.Walk.{Walk}
 use Rattle.plan.proofs.Loading.{loaded-accepted}
 use Rattle.plan.proofs.Lists.{filled-visits, opened, within, steps, walk-visits, last-walk}
-use Rattle.stratify.specs.Answers.{of-verdict, of-location, check-outcome, query-outcome, ShiftFits, Cell}
-use Rattle.stratify.specs.Theorem.{PlainRelation, VisitedOnce, Covered, RelatedToPlain, Queried, Checked, Lists, GivesRun, StandardPair, Theorems}
 use Rattle.plan.proofs.Level.{level-of}
+use Rattle.stratify.specs.Answers.{of-verdict, of-location, check-outcome, query-outcome, ShiftFits, Cell}
+use Rattle.stratify.specs.Theorem.{PlainRelation, VisitedOnce, Covered, RelatedToPlain, Queried, Checked, Lists, GivesRun}
+use Rattle.stratify.specs.Theorem.{StandardPair, Theorems}
 use Rattle.stratify.proofs.Outcomes.{query-outcome-is, check-outcome-is, verdict-accepted, verdict-not-net, verdict-refuses}
 use Rattle.stratify.proofs.Outcomes.{location-accepted, location-not-net}
 

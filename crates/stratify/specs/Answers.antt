@@ -7,9 +7,9 @@ use Rattle.net.specs.Check.{Verdict, passed, refused, check}
 use Rattle.net.specs.Query.{Location, found, no-net, locate}
 use Rattle.refusal.specs.Outcome.{Outcome, accepted, not-net, Test, first}
 use Rattle.refusal.specs.Refusal.{of-refusal}
+use Rattle.word.specs.Index.{index-bits}
 use Rattle.plan.specs.declared.pair.Plan.{Plan}
 use Rattle.plan.specs.declared.points.Shift.{Shift}
-use Rattle.word.specs.Index.{index-bits}
 use Rattle.plan.specs.Pair.{generators, scrambling, loaded, not-a-pair, unknown-level}
 use Rattle.stratify.specs.declared.queries.Located.{Located}
 use Rattle.stratify.specs.declared.queries.Located.the-variants as located

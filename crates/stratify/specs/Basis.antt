@@ -14,7 +14,7 @@ use Rattle.net.specs.Scrambling.{plain}
 use Rattle.net.specs.Elimination.{Additive, BasisEntry, interval, solve}
 use Rattle.net.specs.Answers.{Solved}
 
--- the first n words and indexes, the newest first; the pivot of a word is its lowest bit
+-- the first n words and indexes as entries of a basis, the newest first; the pivot of a word is its lowest set bit
 unfoldable pub entries : List ℕ → List ℕ → ℕ → List BasisEntry
 entries words indexes zero = []
 entries words indexes (suc n) =
@@ -24,11 +24,13 @@ entries words indexes (suc n) =
 abbrev pub Images : (ℕ → ℕ) → List ℕ → List ℕ → ℕ → Type 0
 Images L words indexes n = (t : ℕ) → t < n → getD words t 0 ≡ L (getD indexes t 0)
 
--- a word and an index cleared by n entries, for every additive L: the index has moved by the solution for the word
+-- The word v with the index k, cleared by the first n entries, has become `word` with `index`: the index has moved by the solution for v, and
+-- the word is what that solution leaves of v.
 pub record Swept (words indexes : List ℕ) (n v k word index : ℕ) (L : ℕ → ℕ) : Type 0 where
   pub moved : index ≡ plus 2 k (solve 2 L (entries words indexes n) v)
   pub rest : word ≡ minus 2 v (L (solve 2 L (entries words indexes n) v))
 
+-- this, for every additive L of which the first n words are images
 abbrev pub Sweeps : List ℕ → List ℕ → ℕ → ℕ → ℕ → ℕ → ℕ → Type 0
 Sweeps words indexes n v k word index = (L : ℕ → ℕ) → Additive 2 L → Images L words indexes n → Swept words indexes n v k word index L
 
@@ -44,15 +46,15 @@ room = 40
 abbrev pub Long : List ℕ → List ℕ → Type 0
 Long words indexes = (length words ≡ room) × (length indexes ≡ room)
 
--- the first n words are the columns of the shape (m, a), as the intervals of the indexes that have one of them
+-- the first n words are the columns of the shape (m, a): word c is the interval of the index 2 ^ c, which stands beside it
 abbrev pub ShapeColumns : Generators → ℕ → ℕ → ℕ → List ℕ → List ℕ → Type 0
 ShapeColumns G m a n words indexes = (c : ℕ) → c < n → (getD words c 0 ≡ interval (plain G) m a (2 ^ c)) × (getD indexes c 0 ≡ 2 ^ c)
 
--- a word w cleared at the lowest bit of the word `by`; what is added then, to a word or to its index, is x times the bit that w has there
+-- y with x added if the word w has the lowest set bit of the word `by`; with x = `by` and y = w this clears that bit of w
 abbrev pub added : (by w x y : ℕ) → ℕ
 added by w x y = bitXor y (x * (w / 2 ^ trailingZeros 32 by % 2))
 
--- the words from one position up to another are cleared, and their indexes moved along
+-- the words at the positions from `from` up to `to` are cleared by the word `by`, and its index `along` is added to their indexes
 pub record Clears (by along from to : ℕ) (words indexes words′ indexes′ : List ℕ) : Type 0 where
   pub word : (d : ℕ) → from ≤ d → d < to → getD words′ d 0 ≡ added by (getD words d 0) by (getD words d 0)
   pub index : (d : ℕ) → from ≤ d → d < to → getD indexes′ d 0 ≡ added by (getD words d 0) along (getD indexes d 0)

@@ -9,6 +9,8 @@ use lib.Bits.{bitXor}
 use lib.ListN.{length, getD, take, drop}
 use Rattle.ranges.specs.Unique.{Only, One}
 use Rattle.ranges.specs.Below.{Below}
+use Rattle.ranges.specs.Walk.{Walk, answers, given}
+use Rattle.ranges.specs.Theorem.{Walked, WalkedByHand}
 use Rattle.net.specs.Generators.{Valid, entry}
 use Rattle.net.specs.Sequence.{column, row, VisitIn, Crowded, Least}
 use Rattle.net.specs.Scrambling.{plain}
@@ -16,14 +18,12 @@ use Rattle.net.specs.Shape.{determinant, Passes}
 use Rattle.net.specs.Check.{FirstCrowded, FirstZero}
 use Rattle.net.specs.Run.{visit, visits, run, hits}
 use Rattle.net.specs.Standard.{binomial}
-use Rattle.ranges.specs.Walk.{Walk, answers, given}
-use Rattle.ranges.specs.Theorem.{Walked, WalkedByHand}
 use Rattle.refusal.specs.Outcome.{accepted, not-net}
+use Rattle.word.specs.Index.{index-bits, index-count, last-index}
 use Rattle.plan.specs.declared.pair.Plan.{Plan}
 use Rattle.plan.specs.declared.points.Shift.{Shift}
 use Rattle.plan.specs.Pair.{generators, sequence, standard-pair, largest-level, Level, loaded}
 use Rattle.plan.specs.Fill.{fill-outcome, filled}
-use Rattle.word.specs.Index.{index-bits, index-count, last-index}
 use Rattle.plan.specs.Walk.{open-outcome}
 use Rattle.plan.specs.Lists.{pointed, held, visits-walked}
 use Rattle.stratify.specs.Answers.{ShiftFits, Cell, check-outcome, query-outcome}
@@ -108,7 +108,8 @@ pub record Lists (P : Plan) (s : Shift) : Type 0 where
 pub record GivesRun (P : Plan) (s : Shift) (m k : ℕ) : Type 0 where
   pub points : pointed (sequence P s) (k * 2 ^ m) (2 ^ m) ≡ run (sequence P s) m k
   pub fills : (p : ℕ) (xs ys : List ℕ) → fill-outcome index-count (k * 2 ^ m + p) xs ys ≡ accepted tt
-      → take (2 ^ m - p) (held (k * 2 ^ m + p) (filled index-count (sequence P s) (k * 2 ^ m + p) xs ys)) ≡ take (length xs) (drop p (run (sequence P s) m k))
+      → take (2 ^ m - p) (held (k * 2 ^ m + p) (filled index-count (sequence P s) (k * 2 ^ m + p) xs ys))
+      ≡ take (length xs) (drop p (run (sequence P s) m k))
   pub walks : (count n : ℕ) (w : Walk) → open-outcome index-count (k * 2 ^ m) count ≡ accepted w
       → take (2 ^ m) (visits-walked (sequence P s) n w) ≡ take (min n count) (run (sequence P s) m k)
 

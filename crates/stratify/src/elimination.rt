@@ -54,7 +54,8 @@ fn spread(word: u32, by: u32) -> u32
 // Clears the words of a part at the lowest set bit of one word, and adds that word's index to the indexes of those that had the bit.
 fn clear_part(words: &mut [u32], indexes: &mut [u32], from: usize, by: u32, along: u32)
     requires { ⌜ (by ≢ 0) × (from + part ≤ room) × Long (now words) (now indexes) ⌝ }
-    ensures cleared { λ _. ⌜ Clears by along from (from + part) (now (words .entry)) (now (indexes .entry)) (now (words .exit)) (now (indexes .exit)) ⌝ }
+    ensures cleared { λ _. ⌜
+        Clears by along from (from + part) (now (words .entry)) (now (indexes .entry)) (now (words .exit)) (now (indexes .exit)) ⌝ }
     ensures words { λ _. ⌜ Stays from (from + part) (now (words .entry)) (now (words .exit)) ⌝ }
     ensures indexes { λ _. ⌜ Stays from (from + part) (now (indexes .entry)) (now (indexes .exit)) ⌝ }
 {

@@ -57,7 +57,7 @@ fn plain_cell(plan: Plan, shift: Shift, m: u32, a: u32, column: u32, row: u32, b
     join(c, r, m - a)
 }
 
-// The index of a block in a cell, where neither is refused.
+// The index of a block in a cell, where no test before 3 refuses.
 fn find(plan: Plan, shift: Shift, m: u32, a: u32, column: u32, row: u32, block: Block) -> Located
     requires { ⌜ Valid (generators plan) × ShiftFits shift × Cell largest-level m a block column row ⌝ }
     ensures { λ r. ⌜ of-located r ≡ of-location m a (locate (generators plan) (scrambling shift) m a block column row) ⌝ }

@@ -6,9 +6,9 @@ use mathlib.Core.List.{List, [], _∷_, _++_}
 use Prim.Native.Nat.{ℕ, zero, suc, _+_, _-_, _*_, _/_, _%_, _^_, _≤_, _<_}
 use native.Mathlib.Nat.{div-lt-iff-lt-mul, lt-of-lt-of-le, pow-suc}
 use native.Mathlib.Omega.{arith}
+use borrow.Author.Tests.{ltb-true, ltb-false}
 use lib.Dec.{ltb, lit<, lit≤}
 use lib.ListN.{getD}
-use borrow.Author.Tests.{ltb-true, ltb-false}
 use Rattle.text.specs.Ascii.{digit-zero}
 use Rattle.text.specs.Decimal.{decimal-in, decimal}
 use Rattle.text.specs.Theorem.{read-on, AllDigits}

@@ -6,9 +6,9 @@ use mathlib.Core.List.{List, [], _∷_, _++_, append-assoc}
 use Prim.Native.Nat.{ℕ, _+_, _≤_, _<_}
 use native.Mathlib.Nat.{add-zero, add-assoc, le-refl}
 use native.Mathlib.Omega.{arith}
+use borrow.Author.Tests.{le-leb}
 use lib.ListN.{length, take, drop, set, length-append}
 use lib.Seq.{paste-zero, paste-suc, length-paste, take-paste, drop-paste, take-all, drop-drop}
-use borrow.Author.Tests.{le-leb}
 use lib.Dec.{leb}
 use Rattle.text.specs.Put.{put, written, end}
 

@@ -5,11 +5,11 @@ use mathlib.Core.Logic.{_≢_}
 use mathlib.Core.List.{List, [], _∷_}
 use Prim.Native.Nat.{ℕ, zero, suc, _^_, _≤_, _<_}
 use native.Mathlib.Omega.{arith}
+use borrow.Author.Tests.{ne-eqb}
 use lib.IntN.{ℤ, pos, negsuc, negℤ}
 use lib.ListN.{getD}
 use mir.Syntax.{w32}
 use mir.Val.{SFits}
-use borrow.Author.Tests.{ne-eqb}
 use Rattle.text.specs.Ascii.{minus-sign, digit-zero}
 use Rattle.text.specs.Decimal.{decimal, signed-decimal}
 use Rattle.text.specs.Theorem.{read-on, number-read, without-minus, integer-read, AllDigits}

@@ -1,7 +1,7 @@
 -- A text that is handed out piece by piece. A cursor goes from call to call by value.
-use Prim.Native.Nat.{ℕ, _+_, _≤_}
 use mathlib.Core.Path.{_≡_}
 use mathlib.Core.List.{List, [], _∷_, _++_}
+use Prim.Native.Nat.{ℕ, _+_, _≤_}
 use lib.ListN.{length, take}
 
 -- n counts elements at the start of a list. The second part follows from the first; it lets a caller lend `&buffer[..n]` without a proof.

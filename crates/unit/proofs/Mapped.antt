@@ -3,14 +3,14 @@ use mathlib.Core.Path.{_≡_, sym, ap, _∙_}
 use mathlib.Core.Logic.{_⊎_, inl, inr, _≢_}
 use Prim.Native.Nat.{ℕ, zero, suc, _≤_, _<_}
 use native.Mathlib.Omega.{arith}
+use Rattle.ranges.specs.Walk.{Walk, Answer, visited, ended, Stepped, step}
 use Rattle.ranges.proofs.Order.{lt-or-ge, eq-or-ne}
+use Rattle.ranges.proofs.Walk.{step-none, step-past, step-last, step-more}
 use Rattle.net.specs.Sequence.{Sequence}
 use Rattle.net.specs.Run.{Visit, visit}
-use Rattle.ranges.specs.Walk.{Walk, Answer, visited, ended, Stepped, step}
-use Rattle.ranges.proofs.Walk.{step-none, step-past, step-last, step-more}
+use Rattle.word.specs.Index.{last-index}
 use Rattle.plan.specs.declared.walks.Step.{Step as StepCode}
 use Rattle.plan.specs.declared.walks.Stepped.{Stepped as SteppedCode}
-use Rattle.word.specs.Index.{last-index}
 use Rattle.plan.specs.Walk.{of-walk, of-step, of-stepped}
 use Rattle.unit.specs.declared.steps.SinglesVisit.{SinglesVisit}
 use Rattle.unit.specs.Singles.{singles-of, visit-singles}

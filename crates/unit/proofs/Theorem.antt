@@ -1,10 +1,10 @@
 -- The one term for specs/Theorem. Assumes nothing.
 use mathlib.Core.Path.{_≡_, refl, subst}
+use mathlib.Core.Bool.{false}
 use Prim.Native.Nat.{ℕ, _^_, _≤_, _<_}
 use lib.IntN.{pos}
 use lib.Dec.{lit<}
 use lib.Ieee.{fin, ofBits}
-use mathlib.Core.Bool.{false}
 use Rattle.net.specs.Sequence.{top}
 use Rattle.plan.proofs.Lists.{steps}
 use Rattle.unit.specs.Quotient.{nearest-double, lower-single}

@@ -1,6 +1,6 @@
 -- A number v / 2 ^ L, for v below 2 ^ L, as a double and as a single. The kit's `fin s m e` is the number m * 2 ^ e, negative where s is true.
-use Prim.Native.Nat.{ℕ, _+_, _-_, _*_, _/_, _^_}
 use mathlib.Core.Bool.{false, cond}
+use Prim.Native.Nat.{ℕ, _+_, _-_, _*_, _/_, _^_}
 use lib.Dec.{eqb}
 use lib.Count.{leadingZeros}
 use lib.Ieee.{Float, binary32, binary64, round, ofBits}

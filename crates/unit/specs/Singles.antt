@@ -1,7 +1,7 @@
--- Points and visits with their coordinates as singles, and the code's steps over them as those of net.
+-- Points and visits with their coordinates as singles, and the code's steps over them as the definitions have them.
 use Prim.Native.Nat.{ℕ}
-use Rattle.net.specs.Sequence.{Sequence, point}
 use Rattle.ranges.specs.Walk.{Answer, visited, ended, Stepped}
+use Rattle.net.specs.Sequence.{Sequence, point}
 use Rattle.plan.specs.Walk.{of-walk}
 use Rattle.unit.specs.declared.pairs.Singles.{Singles}
 use Rattle.unit.specs.declared.steps.SinglesVisit.{SinglesVisit}

@@ -8,8 +8,8 @@ use lib.Count.{leadingZeros}
 use lib.IntN.{pos}
 use lib.Ieee.{Float, nan, inf, fin, Format, binary32, up, down, fits, le, toBits}
 use lib.Ieee.Exact.{HasValue}
-use Rattle.net.specs.Sequence.{Sequence, top}
 use Rattle.ranges.specs.Walk.{Walk, answers, given}
+use Rattle.net.specs.Sequence.{Sequence, top}
 use Rattle.refusal.specs.Outcome.{accepted}
 use Rattle.word.specs.Index.{index-count, last-index}
 use Rattle.plan.specs.Walk.{open-outcome}

@@ -1,13 +1,13 @@
 // Both coordinates of a visit as singles, travelling together.
-ghost use mathlib.Core.Path.{_≡_};
-ghost use Rattle.net.specs.Sequence.{point};
-ghost use Rattle.plan.specs.Pair.{sequence, of-point};
-ghost use Rattle.unit.specs.Singles.{singles-of};
 use crate::single;
 use plan::Plan;
 use plan::Point;
 use plan::Shift;
 use word::Index;
+ghost use mathlib.Core.Path.{_≡_};
+ghost use Rattle.net.specs.Sequence.{point};
+ghost use Rattle.plan.specs.Pair.{sequence, of-point};
+ghost use Rattle.unit.specs.Singles.{singles-of};
 
 // The two coordinates as singles.
 pub struct Singles {

@@ -1,10 +1,4 @@
 // A step of a walk with the point of its visit as singles.
-ghost use mathlib.Core.Path.{_≡_};
-ghost use Rattle.ranges.specs.Walk.{step};
-ghost use Rattle.plan.specs.Pair.{sequence};
-ghost use Rattle.word.specs.Index.{last-index};
-ghost use Rattle.plan.specs.Walk.{of-walk};
-ghost use Rattle.unit.specs.Singles.{visit-singles, of-singles-stepped};
 use crate::Singles;
 use crate::singles_of;
 use plan::Plan;
@@ -13,6 +7,12 @@ use plan::Shift;
 use plan::Step;
 use plan::Walk;
 use word::Index;
+ghost use mathlib.Core.Path.{_≡_};
+ghost use Rattle.ranges.specs.Walk.{step};
+ghost use Rattle.word.specs.Index.{last-index};
+ghost use Rattle.plan.specs.Pair.{sequence};
+ghost use Rattle.plan.specs.Walk.{of-walk};
+ghost use Rattle.unit.specs.Singles.{visit-singles, of-singles-stepped};
 
 // An index with its point as singles.
 pub struct SinglesVisit {

@@ -28,7 +28,8 @@ pub extern "C" fn vektrid_file_walk_step(
     at_x: &mut i32,
     at_y: &mut i32,
 )
-    ensures walk { λ _. ⌜ visits-by-words (now (file .entry)) (now (walk .exit)) ≡ all-but-first (visits-by-words (now (file .entry)) (now (walk .entry))) ⌝ }
+    ensures walk { λ _. ⌜
+        visits-by-words (now (file .entry)) (now (walk .exit)) ≡ all-but-first (visits-by-words (now (file .entry)) (now (walk .entry))) ⌝ }
     ensures given { λ _. ⌜ now (given .exit) ≡ visit-given (visits-by-words (now (file .entry)) (now (walk .entry))) ⌝ }
     ensures visit { λ _. ⌜
         visit-words (now («record_number» .exit)) (now (index .exit)) (now («at_x» .exit)) (now («at_y» .exit))

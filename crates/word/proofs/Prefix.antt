@@ -5,15 +5,15 @@ use mathlib.Core.List.{List}
 use Prim.Native.Nat.{ℕ, zero, suc, _+_, _*_, _/_, _%_, _^_, _≤_, _<_}
 use native.Mathlib.Nat.{div-add-mod', mod-lt, mod-self, mod-eq-of-lt, div-lt-iff-lt-mul, one-mul, pow-zero, pow-suc}
 use native.Mathlib.Omega.{arith}
+use native.Mathlib.Numerals.{add-one}
 use lib.Count.{trailingZeros, under}
 use lib.ListN.{getD}
+use Rattle.ranges.proofs.Order.{lt-or-ge}
 use Rattle.digits.specs.Digits.{plus}
-use native.Mathlib.Numerals.{add-one}
 use Rattle.digits.proofs.Digit.{pow-one, join-lt}
 use Rattle.digits.proofs.Remainder.{join-high, join-low}
 use Rattle.digits.proofs.Arithmetic.{plus-comm, plus-zero, plus-step, plus-split}
 use Rattle.digits.proofs.Two.{one-lt-two}
-use Rattle.ranges.proofs.Order.{lt-or-ge}
 use Rattle.net.specs.Generators.{product}
 use Rattle.net.proofs.Choice.{lowest}
 use Rattle.net.proofs.Product.{product-plus, product-pow}

@@ -7,15 +7,15 @@ use native.Mathlib.Omega.{arith}
 use lib.Bits.{bitXor, bitAnd, and-step, and-shr}
 use lib.ListN.{length, drop, getD, drop-of-length-le}
 use lib.Seq.{drop-cons}
+use Rattle.ranges.specs.Below.{Below}
+use Rattle.ranges.proofs.Below.{below-at}
 use Rattle.digits.specs.Digits.{digit, reversed, plus}
 use Rattle.digits.proofs.Digit.{digit-lt, ext}
 use Rattle.digits.proofs.Arithmetic.{digit-plus}
 use Rattle.digits.proofs.Two.{one-lt-two, plus-two}
-use Rattle.ranges.specs.Below.{Below}
 use Rattle.net.specs.Generators.{product}
 use Rattle.net.specs.Elimination.{Additive}
 use Rattle.net.specs.Standard.{standard}
-use Rattle.ranges.proofs.Below.{below-at}
 use Rattle.net.proofs.Standard.{iterated}
 use Rattle.net.proofs.Additive.{same-additive, chain-additive, sum-additive, times-pow-additive, mod-pow-additive}
 use Rattle.net.proofs.Columns.{additive-pascal}

@@ -6,12 +6,12 @@ use native.Mathlib.Nat.{mod-lt, le-refl, lt-of-lt-of-le, zero-add, div-one, pow-
 use native.Mathlib.Omega.{arith}
 use lib.ListN.{getD}
 use lib.Pow.{pow-add}
-use Rattle.digits.specs.Digits.{reversed}
-use Rattle.digits.proofs.Digit.{pow-pos}
-use Rattle.digits.proofs.Reversed.{reversed-parts, reversed-mod, reversed-lt}
 use Rattle.ranges.specs.Range.{range}
 use Rattle.ranges.proofs.Range.{getD-each}
 use Rattle.ranges.proofs.Below.{below-at, below-map}
+use Rattle.digits.specs.Digits.{reversed}
+use Rattle.digits.proofs.Digit.{pow-pos}
+use Rattle.digits.proofs.Reversed.{reversed-parts, reversed-mod, reversed-lt}
 
 -- the m lowest digits of i reversed, and the digits above them
 pub record Split (b m i rest sum : ℕ) : Type 0 where

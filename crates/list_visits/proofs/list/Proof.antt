@@ -2,9 +2,9 @@
 -- Assumes nothing.
 use mathlib.Core.Path.{_≡_, ap}
 use native.Mathlib.Omega.{arith}
+use borrow.Author.Needs.{needs}
 use denote.Ref.{now}
 use lib.ListN.{length, take, length-append}
-use borrow.Author.Needs.{needs}
 use Rattle.listing.specs.Cursor.{to-come}
 use Rattle.list_visits.proofs.list.Statement.{statement}
 use Rattle.list_visits.proofs.list.Tie as tie

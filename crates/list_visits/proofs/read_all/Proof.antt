@@ -1,10 +1,10 @@
 -- `read_all`: what is read stands at the start of the buffer.
 -- Assumes nothing.
-use Rattle.io.proofs.Counting.{counts}
 use mathlib.Core.Path.{_≡_}
 use Prim.Native.Nat.{_-_, _≤_}
-use lib.ListN.{length}
 use borrow.Author.Needs.{needs}
+use lib.ListN.{length}
+use Rattle.io.proofs.Counting.{counts}
 use Rattle.list_visits.proofs.read_all.Statement.{statement}
 use Rattle.list_visits.proofs.read_all.Tie as tie
 

@@ -1,8 +1,8 @@
 -- `known_points::lines::cell_line`: a size has at least one cell, and a shape at least one row. Assumes nothing.
 use Prim.Native.Nat.{ℕ, _*_, _%_, _^_, _<_}
 use native.Mathlib.Omega.{arith}
-use lib.Pow.{pow-pos}
 use borrow.Author.Needs.{needs}
+use lib.Pow.{pow-pos}
 use Rattle.word.proofs.Turn.{one-shifted}
 use Rattle.known_points.proofs.lines.cell_line.Statement.{statement}
 use Rattle.known_points.proofs.lines.cell_line.Tie as tie

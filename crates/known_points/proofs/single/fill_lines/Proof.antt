@@ -1,7 +1,7 @@
 -- `known_points::single::fill_lines`: the parts that are lent lie in the buffers. Assumes nothing.
 use mathlib.Core.Path.{sym}
-use lib.Seq.{length-take-le}
 use borrow.Author.Needs.{needs}
+use lib.Seq.{length-take-le}
 use Rattle.known_points.proofs.single.fill_lines.Statement.{statement}
 use Rattle.known_points.proofs.single.fill_lines.Tie as tie
 

@@ -4,6 +4,7 @@ use mathlib.Core.List.{List}
 use Prim.Native.Nat.{ℕ}
 use native.Mathlib.Nat.{zero-add}
 use native.Mathlib.Omega.{arith}
+use borrow.Author.Needs.{needs}
 use denote.Ref.{now}
 use lib.ListN.{length}
 use Rattle.text.specs.Ascii.{line-feed}
@@ -14,7 +15,6 @@ use Rattle.text.proofs.Numbers.{number-longest}
 use Rattle.listing.specs.declared.cursors.Lead.{Lead}
 use Rattle.listing.specs.Listing.{header, refused-word, refused-text}
 use Rattle.listing.specs.Cursor.{lead-text}
-use borrow.Author.Needs.{needs}
 use Rattle.listing.proofs.cursors.put_lead.Statement.{statement}
 use Rattle.listing.proofs.cursors.put_lead.Tie as tie
 

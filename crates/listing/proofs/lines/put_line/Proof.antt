@@ -1,5 +1,6 @@
 -- `put_line`: the four fields are put one behind the other, and each has room.
 use mathlib.Core.Path.{subst}
+use borrow.Author.Needs.{needs}
 use denote.Ref.{now}
 use lib.IntN.{ℤ}
 use mir.Syntax.{w32}
@@ -9,7 +10,6 @@ use Rattle.text.specs.Ascii.{line-feed, blank}
 use Rattle.text.specs.Decimal.{signed-text, longest-signed}
 use Rattle.text.proofs.Puts.{WritesIfRoom}
 use Rattle.listing.proofs.Putting.{line-put}
-use borrow.Author.Needs.{needs}
 use Rattle.listing.proofs.lines.put_line.Statement.{statement}
 use Rattle.listing.proofs.lines.put_line.Tie as tie
 

@@ -6,9 +6,9 @@ use Prim.Native.Nat.{ℕ}
 use borrow.Author.Needs.{needs}
 use Rattle.refusal.specs.Outcome.{Outcome, then}
 use Rattle.refusal.proofs.First.{granted-accepted, granted-refused}
+use Rattle.word.specs.Index.{index-count}
 use Rattle.plan.specs.declared.pair.Plan.{Plan}
 use Rattle.plan.specs.Pair.{sequence, load-outcome, loaded}
-use Rattle.word.specs.Index.{index-count}
 use Rattle.plan.specs.Fill.{Buffers, fill-outcome, filled}
 use Rattle.answers.specs.Answers.{answer-number}
 use Rattle.answers.proofs.Outcomes.{refused-answer}

@@ -4,11 +4,11 @@ use mathlib.Core.List.{List}
 use Prim.Native.Nat.{ℕ, _+_, _-_, _*_, _/_}
 use native.Mathlib.Omega.{arith}
 use borrow.Rule.Slice.PartMut.{putMid}
+use borrow.Author.Needs.{needs}
 use lib.ListN.{length, take, drop, length-drop}
 use lib.Seq.{length-take-le}
-use Rattle.products.specs.Products.{offset-product}
 use Rattle.ranges.proofs.Filled.{Filled, filled-none, filled-lent, filled-all}
-use borrow.Author.Needs.{needs}
+use Rattle.products.specs.Products.{offset-product}
 use Rattle.products.proofs.fills.in_parts.Statement.{statement}
 use Rattle.products.proofs.fills.in_parts.Tie as tie
 

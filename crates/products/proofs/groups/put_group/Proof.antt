@@ -6,10 +6,10 @@ use native.Mathlib.Nat.{zero-add}
 use native.Mathlib.Omega.{arith}
 use lib.Bits.{bitXor}
 use lib.ListN.{getD}
-use Rattle.digits.specs.Digits.{plus}
-use Rattle.digits.proofs.Two.{plus-two}
 use Rattle.ranges.specs.Range.{range}
 use Rattle.ranges.proofs.Filled.{Filled, filled-none, filled-more, filled-all}
+use Rattle.digits.specs.Digits.{plus}
+use Rattle.digits.proofs.Two.{plus-two}
 use Rattle.products.proofs.groups.put_group.Statement.{statement}
 use Rattle.products.proofs.groups.put_group.Tie as tie
 

@@ -1,8 +1,8 @@
 -- `turned`: a number other than 0 has a lowest bit.
 use mathlib.Core.Path.{refl}
+use native.Mathlib.Omega.{arith}
 use lib.Count.{trailing-le}
 use Rattle.word.proofs.Prefix.{trailing-zeros-below}
-use native.Mathlib.Omega.{arith}
 use Rattle.products.proofs.singly.turned.Statement.{statement}
 use Rattle.products.proofs.singly.turned.Tie as tie
 

@@ -1,8 +1,8 @@
 -- `axis::offset`: the product is below 2^64, and its quotient is at most the extent.
 -- Assumes nothing.
 use native.Mathlib.Omega.{arith}
-use Rattle.stage.proofs.Sums.{product-fits, offset-le}
 use borrow.Author.Needs.{needs}
+use Rattle.stage.proofs.Sums.{product-fits, offset-le}
 use Rattle.stage.proofs.axis.offset.Statement.{statement}
 use Rattle.stage.proofs.axis.offset.Tie as tie
 

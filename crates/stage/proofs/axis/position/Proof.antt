@@ -3,13 +3,13 @@
 use mathlib.Core.Path.{sym, ap, _∙_, subst}
 use Prim.Native.Nat.{ℕ, _≤_}
 use native.Mathlib.Omega.{arith}
+use borrow.Author.Needs.{needs}
 use lib.IntN.{ℤ, pos, _+ℤ_}
 use mir.Syntax.{w32}
 use mir.Val.{SFits, toZ, ofZ}
 use mir.ValLaws.{toZ-ofZ}
 use Rattle.stage.specs.Position.{largest-extent}
 use Rattle.stage.proofs.Sums.{offset-le, moved-fits, moved}
-use borrow.Author.Needs.{needs}
 use Rattle.stage.proofs.axis.position.Statement.{statement}
 use Rattle.stage.proofs.axis.position.Tie as tie
 

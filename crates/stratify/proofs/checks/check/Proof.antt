@@ -2,11 +2,11 @@
 use mathlib.Core.Path.{_≡_, sym, ap, _∙_}
 use mathlib.Core.Bool.{not}
 use mathlib.Core.List.{[], _∷_}
+use borrow.Author.Needs.{needs}
 use lib.Dec.{eqb}
 use lib.ListN.{length, getD}
 use mir.Syntax.{w32}
 use mir.Val.{Fits}
-use borrow.Author.Needs.{needs}
 use Rattle.net.specs.Check.{check}
 use Rattle.refusal.specs.Outcome.{Outcome, first}
 use Rattle.refusal.specs.Refusal.{of-judgement}
@@ -14,8 +14,8 @@ use Rattle.refusal.proofs.First.{first-none, first-refuses, first-passes, alone
 use Rattle.plan.specs.declared.pair.Plan.{Plan}
 use Rattle.plan.specs.Pair.{generators, loaded, unknown-level}
 use Rattle.plan.proofs.Laws.{words-valid}
-use Rattle.stratify.specs.Answers.{of-verdict, check-outcome}
 use Rattle.plan.proofs.Level.{level-of}
+use Rattle.stratify.specs.Answers.{of-verdict, check-outcome}
 use Rattle.stratify.proofs.checks.check.Statement.{statement}
 use Rattle.stratify.proofs.checks.check.Tie as tie
 

@@ -6,8 +6,8 @@ use lib.Pow.{pow-mono}
 use Rattle.net.specs.Scrambling.{plain}
 use Rattle.net.specs.Elimination.{interval}
 use Rattle.net.proofs.Interval.{interval-lt}
-use Rattle.word.proofs.Turn.{one-shifted}
 use Rattle.word.specs.Matrices.{pair}
+use Rattle.word.proofs.Turn.{one-shifted}
 use Rattle.plan.specs.Pair.{generators}
 use Rattle.stratify.proofs.Refinement.{interval-at}
 use Rattle.stratify.proofs.Clearing.{Putting, putting-none, putting-more}

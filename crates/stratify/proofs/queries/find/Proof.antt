@@ -2,8 +2,8 @@
 use mathlib.Core.Path.{_≡_, sym, ap, subst}
 use Prim.Native.Nat.{ℕ, _+_, _*_, _^_}
 use native.Mathlib.Omega.{arith}
-use Rattle.digits.proofs.Two.{one-lt-two}
 use Rattle.ranges.specs.Unique.{Only}
+use Rattle.digits.proofs.Two.{one-lt-two}
 use Rattle.linear.proofs.Prime.{two}
 use Rattle.net.specs.Sequence.{VisitIn}
 use Rattle.net.specs.Shape.{Shape}

@@ -74,5 +74,5 @@ returns : tie.Need-returns
 returns c = c .join2 .ensures ∙ cell (c .before)
 
 pub plain-cell-spec : {M : Type 1} → statement M
-plain-cell-spec = tie.close 
+plain-cell-spec = tie.close
     (tie.spec join-requires first-point-requires relative-to-requires sub-relative-to relative-to-requires-2 sub-join join-requires-2 returns)

@@ -15,8 +15,8 @@ use Rattle.refusal.specs.Outcome.{Outcome, Test, first}
 use Rattle.refusal.proofs.First.{first-none, first-refuses, first-passes}
 use Rattle.plan.specs.Pair.{generators, scrambling}
 use Rattle.plan.proofs.Laws.{words-valid}
-use Rattle.stratify.specs.Answers.{of-location, query-tests, query-outcome}
 use Rattle.plan.proofs.Level.{level-of}
+use Rattle.stratify.specs.Answers.{of-location, query-tests, query-outcome}
 use Rattle.stratify.proofs.Tests.{past-limit, column-past, row-past, cell-within}
 use Rattle.stratify.proofs.queries.query.Statement.{statement}
 use Rattle.stratify.proofs.queries.query.Tie as tie

@@ -1,11 +1,11 @@
 -- `fields::bytes`: the text is its own longest text, so where there is room, all of it is copied.
 -- Assumes nothing.
 use mathlib.Core.Path.{sym, _∙_}
+use borrow.Author.Tests.{not-true, not-false, leb-true}
+use borrow.Author.Needs.{needs}
 use denote.Ref.{now}
 use lib.ListN.{length}
-use borrow.Author.Tests.{not-true, not-false, leb-true}
 use Rattle.text.proofs.Puts.{without-room, to-if-room}
-use borrow.Author.Needs.{needs}
 use Rattle.text.proofs.fields.bytes.Statement.{statement}
 use Rattle.text.proofs.fields.bytes.Tie as tie
 

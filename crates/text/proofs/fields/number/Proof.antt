@@ -4,14 +4,14 @@ use mathlib.Core.Path.{_≡_, sym, _∙_}
 use mathlib.Core.Bool.{true}
 use Prim.Native.Nat.{_+_, _≤_}
 use native.Mathlib.Omega.{arith}
+use borrow.Author.Tests.{not-true, not-false, leb-true}
+use borrow.Author.Needs.{needs}
 use denote.Ref.{now}
 use lib.Dec.{leb}
 use lib.ListN.{length}
-use borrow.Author.Tests.{not-true, not-false, leb-true}
 use Rattle.text.specs.Decimal.{number-text, longest-number}
 use Rattle.text.proofs.Puts.{without-room, to-if-room}
 use Rattle.text.proofs.Numbers.{number-longest}
-use borrow.Author.Needs.{needs}
 use Rattle.text.proofs.fields.number.Statement.{statement}
 use Rattle.text.proofs.fields.number.Tie as tie
 

@@ -4,6 +4,8 @@ use mathlib.Core.Path.{_≡_, sym, ap, _∙_, subst}
 use mathlib.Core.Bool.{true}
 use Prim.Native.Nat.{ℕ, _+_, _≤_}
 use native.Mathlib.Omega.{arith}
+use borrow.Author.Tests.{not-true, not-false, leb-true}
+use borrow.Author.Needs.{needs}
 use denote.Ref.{now}
 use lib.Dec.{leb}
 use lib.IntN.{ℤ, natAbs}
@@ -11,11 +13,9 @@ use lib.ListN.{length}
 use mir.Syntax.{w32}
 use mir.Val.{toZ, ofZ}
 use mir.ValLaws.{toZ-ofZ}
-use borrow.Author.Tests.{not-true, not-false, leb-true}
 use Rattle.text.specs.Decimal.{sign, number-text, signed-text, longest-signed}
 use Rattle.text.proofs.Puts.{Writes, writes-then, without-room, to-if-room}
 use Rattle.text.proofs.Numbers.{signed-length, signed-longest}
-use borrow.Author.Needs.{needs}
 use Rattle.text.proofs.fields.signed_number.Statement.{statement}
 use Rattle.text.proofs.fields.signed_number.Tie as tie
 

@@ -2,8 +2,8 @@
 -- Assumes nothing.
 use Prim.Native.Nat.{_/_, _%_, _<_}
 use native.Mathlib.Omega.{arith}
-use Rattle.text.proofs.Parts.{four-digits-word-is}
 use borrow.Author.Needs.{needs}
+use Rattle.text.proofs.Parts.{four-digits-word-is}
 use Rattle.text.proofs.groups.four_digits_word.Statement.{statement}
 use Rattle.text.proofs.groups.four_digits_word.Tie as tie
 

@@ -1,9 +1,9 @@
 -- `groups::put_byte`: setting an element is putting a text of one byte.
 -- Assumes nothing.
 use mathlib.Core.Path.{refl}
+use borrow.Author.Needs.{needs}
 use denote.Ref.{now}
 use Rattle.text.proofs.Puts.{put-one}
-use borrow.Author.Needs.{needs}
 use Rattle.text.proofs.groups.put_byte.Statement.{statement}
 use Rattle.text.proofs.groups.put_byte.Tie as tie
 

@@ -3,9 +3,9 @@
 use mathlib.Core.List.{[], _∷_}
 use Prim.Native.Nat.{_/_, _%_}
 use native.Mathlib.Omega.{arith}
+use borrow.Author.Needs.{needs}
 use denote.Ref.{now}
 use Rattle.text.proofs.Puts.{writes-then}
-use borrow.Author.Needs.{needs}
 use Rattle.text.proofs.groups.put_bytes.Statement.{statement}
 use Rattle.text.proofs.groups.put_bytes.Tie as tie
 

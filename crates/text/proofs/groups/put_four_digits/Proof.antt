@@ -4,11 +4,11 @@ use mathlib.Core.Path.{_≡_, subst}
 use mathlib.Core.List.{List}
 use Prim.Native.Nat.{ℕ, _/_, _%_, _<_}
 use native.Mathlib.Omega.{arith}
+use borrow.Author.Needs.{needs}
 use denote.Ref.{now}
 use Rattle.text.specs.Decimal.{two-digits, two-digits-word}
 use Rattle.text.proofs.Puts.{Writes, writes-then}
 use Rattle.text.proofs.Parts.{two-digits-bytes}
-use borrow.Author.Needs.{needs}
 use Rattle.text.proofs.groups.put_four_digits.Statement.{statement}
 use Rattle.text.proofs.groups.put_four_digits.Tie as tie
 

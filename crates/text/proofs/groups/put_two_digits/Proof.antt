@@ -3,10 +3,10 @@
 use mathlib.Core.Path.{subst}
 use mathlib.Core.List.{List}
 use Prim.Native.Nat.{ℕ}
+use borrow.Author.Needs.{needs}
 use denote.Ref.{now}
 use Rattle.text.proofs.Parts.{two-digits-bytes}
 use Rattle.text.proofs.Puts.{Writes}
-use borrow.Author.Needs.{needs}
 use Rattle.text.proofs.groups.put_two_digits.Statement.{statement}
 use Rattle.text.proofs.groups.put_two_digits.Tie as tie
 

@@ -3,11 +3,11 @@
 use mathlib.Core.Path.{_≡_}
 use Prim.Native.Nat.{_+_, _/_, _^_, _<_, _≤_}
 use native.Mathlib.Omega.{arith}
+use borrow.Author.Needs.{needs}
 use denote.Ref.{now}
 use lib.ListN.{length}
 use Rattle.text.specs.Decimal.{decimal}
 use Rattle.text.proofs.Parts.{length-last-four, writes-last-four}
-use borrow.Author.Needs.{needs}
 use Rattle.text.proofs.numerals.put_decimal.Statement.{statement}
 use Rattle.text.proofs.numerals.put_decimal.Tie as tie
 

@@ -2,11 +2,11 @@
 -- Assumes nothing.
 use mathlib.Core.List.{[], _∷_}
 use native.Mathlib.Omega.{arith}
+use borrow.Author.Needs.{needs}
 use denote.Ref.{now}
 use Rattle.text.specs.Decimal.{decimal, number-text}
 use Rattle.text.proofs.Puts.{writes-then}
 use Rattle.text.proofs.Numbers.{number-length}
-use borrow.Author.Needs.{needs}
 use Rattle.text.proofs.numerals.put_number.Statement.{statement}
 use Rattle.text.proofs.numerals.put_number.Tie as tie
 

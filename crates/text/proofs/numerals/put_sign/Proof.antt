@@ -4,13 +4,13 @@ use mathlib.Core.Path.{_≡_, sym, ap, subst}
 use mathlib.Core.List.{List, [], _∷_}
 use Prim.Native.Nat.{ℕ}
 use native.Mathlib.Omega.{arith}
+use borrow.Author.Needs.{needs}
 use denote.Ref.{now}
 use lib.ListN.{length}
 use Rattle.signed.proofs.Signs.{negative, non-negative}
 use Rattle.text.specs.Ascii.{minus-sign}
 use Rattle.text.specs.Decimal.{sign}
 use Rattle.text.proofs.Puts.{Writes, put-nothing}
-use borrow.Author.Needs.{needs}
 use Rattle.text.proofs.numerals.put_sign.Statement.{statement}
 use Rattle.text.proofs.numerals.put_sign.Tie as tie
 

@@ -2,9 +2,9 @@
 -- Assumes nothing.
 use Prim.Native.Nat.{_≤_}
 use native.Mathlib.Omega.{arith}
+use borrow.Author.Needs.{needs}
 use denote.Ref.{now}
 use Rattle.text.proofs.Parts.{length-last-two, writes-last-two}
-use borrow.Author.Needs.{needs}
 use Rattle.text.proofs.numerals.put_up_to_four.Statement.{statement}
 use Rattle.text.proofs.numerals.put_up_to_four.Tie as tie
 

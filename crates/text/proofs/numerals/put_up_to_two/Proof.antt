@@ -4,11 +4,11 @@ use mathlib.Core.Path.{sym, ap, subst}
 use mathlib.Core.List.{List}
 use Prim.Native.Nat.{ℕ}
 use native.Mathlib.Omega.{arith}
+use borrow.Author.Needs.{needs}
 use denote.Ref.{now}
 use lib.ListN.{length}
 use Rattle.text.proofs.Parts.{decimal-below-10, decimal-below-100}
 use Rattle.text.proofs.Puts.{Writes}
-use borrow.Author.Needs.{needs}
 use Rattle.text.proofs.numerals.put_up_to_two.Statement.{statement}
 use Rattle.text.proofs.numerals.put_up_to_two.Tie as tie
 

@@ -36,7 +36,8 @@ returns c =
     let v = t .step-words .result in
     let e = t .step-words .ensures in
     let last = c .struct-told2 .given .1 .1 .1 in
-    let visit = read-back (visits-by-words (now (a .file)) (now (a .walk))) (v .number) (v .index) (v .x) (v .y) (now (a .record-number)) (now (a .index))
+    let visit = read-back (visits-by-words (now (a .file)) (now (a .walk)))
+    (v .number) (v .index) (v .x) (v .y) (now (a .record-number)) (now (a .index))
     (now (a .at-x)) (now (a .at-y)) (search needs) (search needs) (search needs) (search needs) (e .1 .1) in
     (e .0, (e .1 .0, visit))
 

@@ -5,9 +5,9 @@ use mathlib.Core.List.{map}
 use Prim.Native.Nat.{_+_, _*_, _%_, _-_, _≤_}
 use native.Mathlib.Omega.{arith}
 use borrow.Author.Needs.{needs}
+use Rattle.ranges.specs.Range.{range}
 use Rattle.digits.specs.Digits.{from-digits, reversed}
 use Rattle.digits.proofs.Two.{one-lt-two}
-use Rattle.ranges.specs.Range.{range}
 use Rattle.word.proofs.Table.{Split, split-none, table-lt, split-more, sum-lt}
 use Rattle.word.proofs.reversal.reversed.Statement.{statement}
 use Rattle.word.proofs.reversal.reversed.Tie as tie

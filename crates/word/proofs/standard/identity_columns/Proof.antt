@@ -1,10 +1,10 @@
 -- `identity_columns`: after c turns the first c columns stand, and the word is column c.
 use Prim.Native.Nat.{_/_, _-_, _≤_}
 use native.Mathlib.Omega.{arith}
+use Rattle.ranges.proofs.Filled.{Running, running-none, running-more, filled-all}
 use Rattle.digits.proofs.Two.{one-lt-two}
 use Rattle.net.specs.Standard.{identity-column}
 use Rattle.net.proofs.Columns.{identity-step}
-use Rattle.ranges.proofs.Filled.{Running, running-none, running-more, filled-all}
 use Rattle.word.proofs.standard.identity_columns.Statement.{statement}
 use Rattle.word.proofs.standard.identity_columns.Tie as tie
 

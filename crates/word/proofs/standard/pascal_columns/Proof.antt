@@ -3,11 +3,11 @@ use mathlib.Core.Path.{_≡_, _∙_}
 use Prim.Native.Nat.{ℕ, suc, _/_, _-_, _≤_}
 use native.Mathlib.Omega.{arith}
 use lib.Bits.{bitXor}
+use Rattle.ranges.proofs.Filled.{Running, running-none, running-more, filled-all}
 use Rattle.digits.specs.Digits.{from-digits}
 use Rattle.digits.proofs.Two.{one-lt-two, plus-two}
 use Rattle.net.specs.Standard.{binomial, pascal-column}
 use Rattle.net.proofs.Columns.{pascal-step}
-use Rattle.ranges.proofs.Filled.{Running, running-none, running-more, filled-all}
 use Rattle.word.proofs.standard.pascal_columns.Statement.{statement}
 use Rattle.word.proofs.standard.pascal_columns.Tie as tie
 

@@ -7,12 +7,12 @@ use native.Mathlib.Numerals.{add-one}
 use native.Mathlib.Omega.{arith}
 use lib.Bits.{bitXor}
 use lib.ListN.{getD}
+use Rattle.ranges.proofs.Filled.{Filled, filled-none, filled-more, filled-all}
 use Rattle.digits.proofs.Two.{one-lt-two, plus-two}
 use Rattle.net.specs.Generators.{product}
 use Rattle.net.proofs.Product.{product-additive}
 use Rattle.net.proofs.Additive.{of-zero}
 use Rattle.word.specs.Prefix.{ones}
-use Rattle.ranges.proofs.Filled.{Filled, filled-none, filled-more, filled-all}
 use Rattle.word.proofs.Prefix.{product-ones}
 use Rattle.word.proofs.sums.prefixes.Statement.{statement}
 use Rattle.word.proofs.sums.prefixes.Tie as tie

@@ -2,6 +2,7 @@
 use mathlib.Core.Path.{sym, ap, ap₂, _∙_}
 use mathlib.Core.List.{List, _++_, append-nil}
 use Prim.Native.Nat.{ℕ}
+use borrow.Author.Needs.{needs}
 use denote.Ref.{now}
 use Rattle.refusal.specs.Refusal.{number}
 use Rattle.visits.specs.declared.file_walks.FileVisit.{FileVisit}
@@ -10,7 +11,6 @@ use Rattle.visits.proofs.Coming.{ended-comes}
 use Rattle.listing.specs.Listing.{refused-text, lines, report, listing}
 use Rattle.listing.specs.Cursor.{to-come}
 use Rattle.listing.proofs.Putting.{lines-none}
-use borrow.Author.Needs.{needs}
 use Rattle.listing.proofs.cursors.Cursor.open.Statement.{statement}
 use Rattle.listing.proofs.cursors.Cursor.open.Tie as tie
 

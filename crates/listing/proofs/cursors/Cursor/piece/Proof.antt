@@ -4,15 +4,15 @@ use mathlib.Core.List.{List, [], _++_}
 use Prim.Native.Nat.{ℕ, _+_, _-_, _≤_, zero-le}
 use native.Mathlib.Nat.{zero-add}
 use native.Mathlib.Omega.{arith}
+use borrow.Author.Needs.{needs}
 use denote.Ref.{now}
 use lib.ListN.{length, take, drop}
 use lib.Seq.{length-take-le, drop-drop}
 use Rattle.visits.specs.FileWalk.{visits-to-come}
+use Rattle.text.proofs.Puts.{Writes}
 use Rattle.listing.specs.Listing.{lines}
 use Rattle.listing.specs.Cursor.{lead-text, to-come, ListingPiece}
 use Rattle.listing.proofs.Putting.{lead-longest, lines-none, joined, beyond}
-use Rattle.text.proofs.Puts.{Writes}
-use borrow.Author.Needs.{needs}
 use Rattle.listing.proofs.cursors.Cursor.piece.Statement.{statement}
 use Rattle.listing.proofs.cursors.Cursor.piece.Tie as tie
 

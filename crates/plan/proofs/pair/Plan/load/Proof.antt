@@ -3,9 +3,9 @@ use mathlib.Core.Path.{_≡_, sym, ap, _∙_}
 use Prim.Native.Nat.{ℕ, _-_}
 use native.Mathlib.Nat.{le-of-eq}
 use native.Mathlib.Omega.{arith}
+use borrow.Author.Needs.{needs}
 use lib.ListN.{length, take, drop, length-drop}
 use lib.Seq.{length-take-le, take-all}
-use borrow.Author.Needs.{needs}
 use Rattle.word.specs.Matrices.{columns-held}
 use Rattle.word.proofs.Copied.{columns-whole}
 use Rattle.plan.proofs.Loading.{loading-refuses, loading-accepts, loaded-refused, loaded-accepted}

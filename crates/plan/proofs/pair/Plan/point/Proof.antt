@@ -17,7 +17,9 @@ scramble-requires : tie.Need-scramble-requires
 scramble-requires c κs = search needs
 
 returns : tie.Need-returns
-returns c = c .scramble .ensures ∙ ap (scrambled-point (scrambling (c .before .before .before .before .before .args .shift))) (both (c .before .before .product .ensures) (c .before .product2 .ensures))
+returns c =
+    let shift = c .before .before .before .before .before .args .shift in
+    c .scramble .ensures ∙ ap (scrambled-point (scrambling shift)) (both (c .before .before .product .ensures) (c .before .product2 .ensures))
 
 pub point-spec : {M : Type 1} → statement M
 point-spec = tie.close (tie.spec product-requires product-requires-2 scramble-requires returns)

@@ -17,7 +17,9 @@ scramble-requires : tie.Need-scramble-requires
 scramble-requires c κs = search needs
 
 returns : tie.Need-returns
-returns c = c .scramble .ensures ∙ ap (scrambled-point (scrambling (c .before .before .before .args .shift))) (both (c .before .before .standard-x .ensures) (c .before .standard-y .ensures))
+returns c =
+    let shift = c .before .before .before .args .shift in
+    c .scramble .ensures ∙ ap (scrambled-point (scrambling shift)) (both (c .before .before .standard-x .ensures) (c .before .standard-y .ensures))
 
 pub standard-point-spec : {M : Type 1} → statement M
 standard-point-spec = tie.close (tie.spec standard-x-requires standard-y-requires scramble-requires returns)

@@ -3,8 +3,8 @@ use native.Mathlib.Omega.{arith}
 use borrow.Author.Tests.{eq-eqb, ne-eqb, le-ltb}
 use borrow.Author.Needs.{needs}
 use Rattle.ranges.specs.Walk.{step}
-use Rattle.plan.specs.Pair.{sequence}
 use Rattle.word.specs.Index.{last-index}
+use Rattle.plan.specs.Pair.{sequence}
 use Rattle.plan.proofs.Laws.{tells}
 use Rattle.plan.proofs.walks.Walk.step.Statement.{statement}
 use Rattle.plan.proofs.walks.Walk.step.Tie as tie

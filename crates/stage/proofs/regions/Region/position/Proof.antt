@@ -3,15 +3,15 @@
 use mathlib.Core.Path.{sym, ap, ap₂, _∙_}
 use mathlib.Core.Bool.{not}
 use mathlib.Core.List.{[]}
-use lib.IntN.{ℤ}
 use native.Mathlib.Omega.{arith}
 use borrow.Author.Tests.{not-false}
+use borrow.Author.Needs.{needs}
+use lib.IntN.{ℤ}
 use Rattle.refusal.specs.Outcome.{accepted}
 use Rattle.refusal.proofs.First.{first-none, first-refuses, first-passes}
 use Rattle.stage.specs.declared.regions.Position.{Position}
 use Rattle.stage.specs.Region.{within}
 use Rattle.stage.proofs.Limits.{Within, within-has, edge-read, position-told}
-use borrow.Author.Needs.{needs}
 use Rattle.stage.proofs.regions.Region.position.Statement.{statement}
 use Rattle.stage.proofs.regions.Region.position.Tie as tie
 

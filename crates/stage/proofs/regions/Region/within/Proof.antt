@@ -3,9 +3,9 @@
 use mathlib.Core.Path.{sym, _∙_}
 use mathlib.Core.Bool.{true, false}
 use borrow.Author.Tests.{not-true, not-false}
+use borrow.Author.Needs.{needs}
 use Rattle.stage.specs.Region.{within}
 use Rattle.stage.proofs.Limits.{edge-told}
-use borrow.Author.Needs.{needs}
 use Rattle.stage.proofs.regions.Region.within.Statement.{statement}
 use Rattle.stage.proofs.regions.Region.within.Tie as tie
 
