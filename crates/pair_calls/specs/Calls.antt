@@ -58,6 +58,10 @@ abbrev pub pair-query-outcome : List ℕ → (shift-x shift-y level m a column r
 pair-query-outcome words shift-x shift-y level m a column row block =
     then (load-outcome words) (query-outcome (loaded words) (record { x = shift-x; y = shift-y }) level m a block column row)
 
+-- the words of one matrix: its columns
+abbrev pub matrix-words : ℕ
+matrix-words = 32
+
 -- the words of the standard pair; where there are not 64 words, they stay as they were
 abbrev pub standard-words : List ℕ → List ℕ
 standard-words words = granted (load-outcome words) (standard-pair .x ++ standard-pair .y) words

@@ -6,7 +6,7 @@ ghost use mathlib.Core.Path.{_≡_};
 ghost use lib.ListN.{length};
 ghost use Rattle.plan.specs.Pair.{load-outcome, loaded};
 ghost use Rattle.answers.specs.Answers.{answer-number};
-ghost use Rattle.pair_calls.specs.Calls.{standard-words};
+ghost use Rattle.pair_calls.specs.Calls.{matrix-words, standard-words};
 
 // The words of one matrix: its columns.
 const MATRIX_WORDS: usize = 32;
@@ -35,7 +35,7 @@ pub(crate) fn pair_plan(words: &[u32]) -> Plan
 
 // The columns of a matrix, into as many words.
 fn put(columns: Columns, out: &mut [u32])
-    requires { ⌜ length (now out) ≡ 32 ⌝ }
+    requires { ⌜ length (now out) ≡ matrix-words ⌝ }
     ensures { λ _. ⌜ now (out .exit) ≡ columns ⌝ }
 {
     let mut i: usize = 0;
