@@ -7,8 +7,8 @@ use types.Run.{OneOf, miss}
 use denote.Enum.Declared.{tagOf}
 use Rattle.refusal.specs.declared.Refusal.{Refusal}
 use Rattle.refusal.specs.declared.Refusal.the-variants as variant
-use Rattle.refusal.proofs.Refusal.{the-type}
 use Rattle.refusal.specs.Refusal.{values}
+use Rattle.refusal.proofs.Refusal.{the-type}
 
 -- the numbers that the variants without values have among all variants, from 0
 abbrev pub without-values : List ℕ
