@@ -7,7 +7,7 @@ ghost use mathlib.Core.Path.{_≡_};
 ghost use lib.ListN.{getD};
 ghost use Rattle.cursor_words.specs.Cursors.{lead-of, cursor-of};
 
-// Two words for what stands before the lines.
+// The kind of what stands before the lines, and the number of a refusal.
 const LEAD_WORDS: usize = 2;
 
 type LeadWords = [u32; LEAD_WORDS];
@@ -15,6 +15,7 @@ type LeadWords = [u32; LEAD_WORDS];
 // Two words for what stands before the lines, and those of a file walk.
 pub const CURSOR_WORDS: usize = 13;
 
+// A cursor by these words, one after the other.
 pub type CursorWords = [u32; CURSOR_WORDS];
 
 // What stands before the lines, by its two words: which kind it is, and the number of a refusal.
@@ -30,7 +31,7 @@ fn lead_of(kind: u32, number: u32) -> Lead
     Lead::Refused(number)
 }
 
-// Two words that stand for it.
+// Two words that stand for what comes before the lines.
 fn words_of_lead(lead: Lead) -> LeadWords
     ensures { λ r. ⌜ lead-of (getD r 0 0) (getD r 1 0) ≡ lead ⌝ }
 {
