@@ -10,7 +10,6 @@ mod steps;
 pub use checks::CheckAnswer;
 pub use checks::check;
 pub use fills::fill;
-pub use pairs::PAIR_WORDS;
 pub use pairs::write_standard;
 pub use points::PointAnswer;
 pub use points::SinglesAnswer;

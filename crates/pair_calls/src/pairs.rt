@@ -1,4 +1,5 @@
 // A pair as words: whether words are one, its matrices, and the standard pair.
+use plan::PAIR_WORDS;
 use plan::Plan;
 use refusal::Refusal;
 use word::COLUMNS;
@@ -9,9 +10,6 @@ ghost use Rattle.word.specs.Index.{index-bits};
 ghost use Rattle.plan.specs.Pair.{load-outcome, loaded};
 ghost use Rattle.answers.specs.Answers.{answer-number};
 ghost use Rattle.pair_calls.specs.Calls.{standard-words};
-
-// The words of a pair: the columns of X, then those of Y.
-pub const PAIR_WORDS: usize = 64;
 
 // 0, or 1 where the words are no pair.
 pub(crate) fn pair_answer(words: &[u32]) -> u32

@@ -8,6 +8,7 @@ mod walks;
 
 pub use fills::fill;
 pub use pair::Loaded;
+pub use pair::PAIR_WORDS;
 pub use pair::Plan;
 pub use points::Point;
 pub use points::Shift;

@@ -11,8 +11,8 @@ ghost use Rattle.net.specs.Sequence.{point};
 ghost use Rattle.refusal.specs.Refusal.{of-judgement};
 ghost use Rattle.plan.specs.Pair.{sequence, standard-pair, unknown-level, load-outcome, loaded, of-point};
 
-// The words of a pair: the columns of both matrices.
-const PAIR_WORDS: usize = 64;
+// The number of words of a pair: the columns of X, then those of Y.
+pub const PAIR_WORDS: usize = 64;
 
 // Two generator matrices by their columns: column c belongs to index bit c, and row 0 is the top bit of a column.
 pub struct Plan {
