@@ -1,6 +1,3 @@
-pub mod Reduction
-pub mod Clearing
-pub mod Refinement
 pub mod Cell
 pub mod Tests
 pub mod Outcomes

@@ -1,5 +1,5 @@
 // The check of generator matrices: the shapes in their order, up to the first that is no net.
-use crate::elimination::eliminate;
+use elimination::eliminate;
 use plan::Plan;
 use refusal::Judgement;
 use refusal::Refusal;

@@ -1,8 +1,6 @@
 // The check of generator matrices and the query of a cell, over one elimination. Both public functions are total: no `requires`,
 // no trap, and every answer promised, refused ones too.
-mod bits;
 mod checks;
-mod elimination;
 mod queries;
 
 pub use checks::check;

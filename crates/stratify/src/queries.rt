@@ -1,15 +1,14 @@
 // The query of a cell: the one index of a block that lies in it.
-use crate::bits::join;
-use crate::bits::top;
-use crate::elimination::eliminate;
+use elimination::eliminate;
 use plan::Plan;
 use plan::Point;
 use plan::Shift;
 use refusal::Refusal;
 use word::INDEX_BITS;
 use word::Index;
+use word::join;
+use word::top;
 ghost use mathlib.Core.Path.{_≡_};
-ghost use Prim.Native.Nat.{_≤_};
 ghost use Rattle.digits.specs.Digits.{minus};
 ghost use Rattle.net.specs.Generators.{Valid};
 ghost use Rattle.net.specs.Sequence.{point, top};
@@ -39,7 +38,6 @@ fn first_point(plan: Plan, shift: Shift, first: Index) -> Point
 
 // A column or row of t bits, exclusive or the t highest bits of a coordinate.
 fn relative_to(coordinate: u32, t: u32, asked: u32) -> u32
-    requires { ⌜ t ≤ 32 ⌝ }
     ensures { λ r. ⌜ r ≡ minus 2 asked (top 2 32 t coordinate) ⌝ }
 {
     asked ^ top(coordinate, t)

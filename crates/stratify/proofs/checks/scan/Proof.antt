@@ -2,6 +2,7 @@
 use mathlib.Core.Path.{_≡_, sym, ap}
 use Prim.Native.Nat.{_+_, _-_, _*_, _≤_, _<_}
 use native.Mathlib.Omega.{arith}
+use borrow.Author.Needs.{needs}
 use Rattle.linear.proofs.Prime.{two}
 use Rattle.net.specs.Check.{NoneBefore}
 use Rattle.net.proofs.Scan.{scan-next, scan-row, scan-all, scan-stops}
@@ -20,7 +21,7 @@ loop-holds : tie.Need-loop-holds Inv-loop μ-loop
 loop-holds c = let s = c .pre .2 in (s .positive, s .wide, s .within, s .none-before)
 
 eliminate-requires : tie.Need-eliminate-requires Inv-loop μ-loop
-eliminate-requires c κs = record { valid = c .before .before .pre .0; wide = omega arith; fits = omega arith }
+eliminate-requires c κs = search needs
 
 returns : tie.Need-returns Inv-loop μ-loop
 returns c =
@@ -29,7 +30,7 @@ returns c =
     let e = c .before .eliminate in
     sym (ap of-verdict
     (scan-stops (s .pre .0) two (s .args .level) (s .pre .1) (l .m) (l .a) (e .result .kernel) (l .inv .0) (omega arith) (l .inv .1) (l .inv .3)
-    (e .ensures .least (c .if1 .taken))))
+    (e .ensures .shape (l .inv .1) (omega arith) .least (c .if1 .taken))))
 
 add-a : tie.Need-add-a Inv-loop μ-loop
 add-a c = omega arith
@@ -42,7 +43,8 @@ loop-again c =
     let l = c .before .before .before .before .loop in
     let e = c .before .before .eliminate in
     let good : e .result .kernel ≡ 0 = omega arith in
-    (omega arith, omega arith, omega arith, scan-next _ (l .m) (l .a) (l .inv .3) (e .ensures .found good .1 .nonzero))
+    let odd = e .ensures .shape (l .inv .1) (omega arith) .found good .1 .nonzero in
+    (omega arith, omega arith, omega arith, scan-next _ (l .m) (l .a) (l .inv .3) odd)
 
 add-m : tie.Need-add-m Inv-loop μ-loop
 add-m c = omega arith
@@ -55,7 +57,8 @@ loop-again-2 c =
     let l = c .before .before .before .before .loop in
     let e = c .before .before .eliminate in
     let good : e .result .kernel ≡ 0 = omega arith in
-    (omega arith, omega arith, omega arith, scan-row _ (l .m) (l .a) (omega arith) (l .inv .3) (e .ensures .found good .1 .nonzero))
+    let odd = e .ensures .shape (l .inv .1) (omega arith) .found good .1 .nonzero in
+    (omega arith, omega arith, omega arith, scan-row _ (l .m) (l .a) (omega arith) (l .inv .3) odd)
 
 returns-2 : tie.Need-returns-2 Inv-loop μ-loop
 returns-2 c =

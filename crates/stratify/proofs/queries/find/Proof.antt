@@ -1,7 +1,8 @@
 -- `find`: the least j, or the only index of the block in the cell.
 use mathlib.Core.Path.{_≡_, sym, ap, subst}
-use Prim.Native.Nat.{ℕ, _+_, _*_, _^_}
+use Prim.Native.Nat.{ℕ, _+_, _*_, _^_, _<_}
 use native.Mathlib.Omega.{arith}
+use borrow.Author.Needs.{needs}
 use Rattle.ranges.specs.Unique.{Only}
 use Rattle.digits.proofs.Two.{one-lt-two}
 use Rattle.linear.proofs.Prime.{two}
@@ -9,6 +10,7 @@ use Rattle.net.specs.Sequence.{VisitIn}
 use Rattle.net.specs.Shape.{Shape}
 use Rattle.net.proofs.Interval.{block-lt}
 use Rattle.net.proofs.Query.{locate-found, locate-no-net}
+use Rattle.word.proofs.Joined.{joined-whole}
 use Rattle.plan.specs.Pair.{generators, scrambling, sequence}
 use Rattle.stratify.specs.Answers.{of-location}
 use Rattle.stratify.proofs.Cell.{answer}
@@ -33,7 +35,7 @@ only c =
     let q = s .pre .2 in
     let cell = c .before .before .plain-cell in
     let e = c .before .eliminate in
-    let f = e .ensures .found (no-kernel c) in
+    let f = e .ensures .shape (q .wide) (q .size) .found (no-kernel c) in
     answer (shape s) (a .shift .x) (a .shift .y) (s .pre .1 .x) (s .pre .1 .y) (a .block) (a .column) (a .row) (q .column) (q .row)
     (f .0) (cell .result) (e .result .index) (f .1) (cell .ensures) (f .2)
 
@@ -41,7 +43,7 @@ plain-cell-requires : tie.Need-plain-cell-requires
 plain-cell-requires c κs = c .pre
 
 eliminate-requires : tie.Need-eliminate-requires
-eliminate-requires c κs = shape (c .before)
+eliminate-requires c κs = search needs
 
 returns : tie.Need-returns
 returns c =
@@ -50,24 +52,28 @@ returns c =
     let e = c .before .eliminate in
     sym (ap (of-location (a .m) (a .a))
     (locate-no-net (generators (a .plan)) (scrambling (a .shift)) (a .m) (a .a) (a .block) (a .column) (a .row) (shape s) two
-    (e .result .kernel) (e .ensures .least (c .if1 .taken))))
+    (e .result .kernel) (e .ensures .shape (s .pre .2 .wide) (s .pre .2 .size) .least (c .if1 .taken))))
 
-join-requires : tie.Need-join-requires
-join-requires c κs =
+-- and it is a word
+fits : (c : tie.Else1) → let s = c .before .before .before in s .args .block * 2 ^ s .args .m + c .before .eliminate .result .index < 2 ^ 32
+fits c =
     let s = c .before .before .before in
     let q = s .pre .2 in
     let below = only c .holds .in-block .below in
-    (q .size, block-lt one-lt-two 32 (s .args .m) (s .args .block) (c .before .eliminate .result .index) (q .size) (q .block) (omega arith))
+    block-lt one-lt-two 32 (s .args .m) (s .args .block) (c .before .eliminate .result .index) (q .size) (q .block) (omega arith)
+
+join-requires : tie.Need-join-requires
+join-requires c κs = search needs
 
 returns-2 : tie.Need-returns-2
 returns-2 c =
     let d = c .before in
     let s = d .before .before .before in
     let a = s .args in
-    let odd = d .before .eliminate .ensures .found (no-kernel d) .1 .nonzero in
+    let odd = d .before .eliminate .ensures .shape (s .pre .2 .wide) (s .pre .2 .size) .found (no-kernel d) .1 .nonzero in
     sym (ap (of-location (a .m) (a .a))
     (locate-found (generators (a .plan)) (scrambling (a .shift)) (a .m) (a .a) (a .block) (a .column) (a .row)
-    (c .join .result) odd (subst (Only (Lies s)) (sym (c .join .ensures)) (only d))))
+    (c .join .result) odd (subst (Only (Lies s)) (sym (joined-whole _ _ _ (c .join .ensures) (fits d))) (only d))))
 
 pub find-spec : {M : Type 1} → statement M
 find-spec = tie.close (tie.spec plain-cell-requires eliminate-requires returns join-requires returns-2)

@@ -1,6 +1,6 @@
 -- `plain_cell`: the numbers joined are the cell less that of the block's first visit.
 use mathlib.Core.Path.{_≡_, ap, ap₂, _∙_}
-use Prim.Native.Nat.{ℕ, _+_, _-_, _*_, _^_}
+use Prim.Native.Nat.{ℕ, _+_, _-_, _*_, _^_, _<_}
 use native.Mathlib.Omega.{arith}
 use borrow.Author.Needs.{needs}
 use lib.Pow.{pow-pos}
@@ -10,6 +10,7 @@ use Rattle.net.specs.Sequence.{point, top}
 use Rattle.net.specs.Shape.{Shape}
 use Rattle.net.specs.Elimination.{serial, plain-interval}
 use Rattle.net.proofs.Interval.{block-lt}
+use Rattle.word.proofs.Joined.{joined-whole}
 use Rattle.plan.specs.Pair.{generators, sequence, of-point}
 use Rattle.stratify.proofs.Cell.{cell-lt}
 use Rattle.stratify.proofs.queries.plain_cell.Statement.{statement}
@@ -19,7 +20,11 @@ shape : (s : tie.Start) → Shape (generators (s .args .plan)) (s .args .m) (s .
 shape s = record { valid = s .pre .0; wide = s .pre .2 .wide; fits = s .pre .2 .size }
 
 first : (c : tie.After-join) → let s = c .before in c .join .result ≡ s .args .block * 2 ^ s .args .m
-first c = omega arith
+first c =
+    let s = c .before in
+    let q = s .pre .2 in
+    let fits = block-lt one-lt-two 32 (s .args .m) (s .args .block) 0 (q .size) (q .block) (pow-pos (s .args .m)) in
+    joined-whole _ _ _ (c .join .ensures) fits ∙ omega arith
 
 -- the number that the code joins
 abbrev asked : tie.Start → ℕ
@@ -43,10 +48,7 @@ cell c =
     (c .relative-to2 .ensures ∙ ap (λ (p : ℕ × ℕ). minus 2 (a .row) (top 2 32 (a .m - a .a) (p .1))) at)
 
 join-requires : tie.Need-join-requires
-join-requires c κs =
-    let s = c in
-    let q = s .pre .2 in
-    (q .size, block-lt one-lt-two 32 (s .args .m) (s .args .block) 0 (q .size) (q .block) (pow-pos (s .args .m)))
+join-requires c κs = search needs
 
 first-point-requires : tie.Need-first-point-requires
 first-point-requires c κs = search needs
@@ -64,14 +66,19 @@ sub-join : tie.Need-sub-join
 sub-join c = search needs
 
 join-requires-2 : tie.Need-join-requires-2
-join-requires-2 c κs =
+join-requires-2 c κs = search needs
+
+-- the number is a word
+fits : (c : tie.After-relative-to2) → let s = c .before .before .before .before in
+    c .before .relative-to .result * 2 ^ (s .args .m - s .args .a) + c .relative-to2 .result < 2 ^ 32
+fits c =
     let s = c .before .before .before .before in
     let a = s .args in
     let small = cell-lt (shape s) (a .shift .x) (a .shift .y) (s .pre .1 .x) (s .pre .1 .y) (a .block) (a .column) (a .row) in
-    (omega arith, rw (cell c) (small (s .pre .2 .column) (s .pre .2 .row)))
+    rw (cell c) (small (s .pre .2 .column) (s .pre .2 .row))
 
 returns : tie.Need-returns
-returns c = c .join2 .ensures ∙ cell (c .before)
+returns c = joined-whole _ _ _ (c .join2 .ensures) (fits (c .before)) ∙ cell (c .before)
 
 pub plain-cell-spec : {M : Type 1} → statement M
 plain-cell-spec = tie.close

@@ -13,7 +13,7 @@ use Rattle.ranges.proofs.Order.{lt-or-ge}
 use Rattle.digits.proofs.Digit.{pow-pos, pow-one}
 use Rattle.digits.proofs.Two.{one-lt-two}
 use Rattle.word.proofs.Turn.{one-shifted}
-use Rattle.stratify.specs.Basis.{added, Clears, Stays}
+use Rattle.elimination.specs.Basis.{added, Clears, Stays}
 
 -- ---- the mask
 

@@ -15,7 +15,7 @@ use Rattle.net.specs.Elimination.{Additive, reduce, solve}
 use Rattle.net.proofs.Additive.{of-minus, of-times, of-zero}
 use Rattle.net.proofs.Reduction.{solve-rest}
 use Rattle.word.proofs.Turn.{times-bit}
-use Rattle.stratify.specs.Basis.{entries, Images, Swept, Sweeps}
+use Rattle.elimination.specs.Basis.{entries, Images, Swept, Sweeps}
 
 module _ (words indexes : List ℕ) (v k : ℕ) where
   pub sweep-none : Sweeps words indexes 0 v k v k

@@ -2,10 +2,10 @@
 use mathlib.Core.Path.{_≡_, sym, _∙_}
 use Prim.Native.Nat.{_-_, _%_, _≤_}
 use native.Mathlib.Omega.{arith}
-use Rattle.stratify.specs.Basis.{Long}
-use Rattle.stratify.proofs.Clearing.{Parts, parts-none, parts-more, fewer}
-use Rattle.stratify.proofs.elimination.clear.Statement.{statement}
-use Rattle.stratify.proofs.elimination.clear.Tie as tie
+use Rattle.elimination.specs.Basis.{Long}
+use Rattle.elimination.proofs.Clearing.{Parts, parts-none, parts-more, fewer}
+use Rattle.elimination.proofs.columns.clear.Statement.{statement}
+use Rattle.elimination.proofs.columns.clear.Tie as tie
 
 abbrev Inv-loop : tie.InvT-loop
 Inv-loop words₀ indexes₀ c n by along from₀ words indexes from =

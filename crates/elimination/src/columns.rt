@@ -1,19 +1,19 @@
 // Elimination for a shape, on arrays of its own. The columns of the shape are cleared at the pivot of one column after the other, and with
 // them the number of the cell that is asked for, so that its index is ready at the end.
-use crate::bits::join;
-use crate::bits::top;
 use plan::Plan;
+use word::join;
+use word::top;
 ghost use mathlib.Core.Path.{_≡_};
 ghost use mathlib.Core.Logic.{_≢_};
 ghost use Prim.Native.Nat.{_+_, _*_, _/_, _%_, _^_, _≤_, _<_};
 ghost use lib.Count.{trailingZeros};
 ghost use Rattle.net.specs.Shape.{Shape};
 ghost use Rattle.plan.specs.Pair.{generators};
-ghost use Rattle.stratify.specs.Basis.{room, part, Long, ShapeColumns, Clears, Stays, Eliminates};
+ghost use Rattle.elimination.specs.Basis.{room, part, Long, ShapeColumns, Clears, Stays, Eliminates, EliminatesAny};
 
 // What an elimination finds. Either kernel is the least index above 0 that shares the cell of index 0, or kernel is 0 and index is the one
 // whose cell was asked for.
-pub(crate) struct Elimination {
+pub struct Elimination {
     pub kernel: u32,
     pub index: u32,
 }
@@ -85,7 +85,7 @@ fn clear(words: &mut [u32], indexes: &mut [u32], c: usize, n: usize, by: u32, al
 
 // Takes the columns of the shape (m, a) one after the other as pivots. A column that is 0 by then is made of those before it, and its index
 // is in the kernel.
-pub(crate) fn eliminate(plan: Plan, m: u32, a: u32, asked: u32) -> Elimination
+fn reduce(plan: Plan, m: u32, a: u32, asked: u32) -> Elimination
     requires { ⌜ Shape (generators plan) m a ⌝ }
     ensures { λ r. ⌜ Eliminates (generators plan) m a asked (r .kernel) (r .index) ⌝ }
 {
@@ -112,4 +112,23 @@ pub(crate) fn eliminate(plan: Plan, m: u32, a: u32, asked: u32) -> Elimination
         kernel: 0,
         index: indexes[n],
     }
+}
+
+// Eliminates for the shape (m, a) and the number of a cell. What is no shape has no kernel and the index 0.
+pub fn eliminate(plan: Plan, m: u32, a: u32, asked: u32) -> Elimination
+    ensures { λ r. ⌜ EliminatesAny (generators plan) m a asked (r .kernel) (r .index) ⌝ }
+{
+    if a > m {
+        return Elimination {
+            kernel: 0,
+            index: 0,
+        };
+    }
+    if m > Plan::LARGEST_LEVEL {
+        return Elimination {
+            kernel: 0,
+            index: 0,
+        };
+    }
+    reduce(plan, m, a, asked)
 }

@@ -2,9 +2,9 @@
 use mathlib.Core.Path.{_≡_, sym, _∙_}
 use Prim.Native.Nat.{_+_, _-_, _≤_}
 use native.Mathlib.Omega.{arith}
-use Rattle.stratify.proofs.Clearing.{Clearing, clearing-none, clearing-more}
-use Rattle.stratify.proofs.elimination.clear_part.Statement.{statement}
-use Rattle.stratify.proofs.elimination.clear_part.Tie as tie
+use Rattle.elimination.proofs.Clearing.{Clearing, clearing-none, clearing-more}
+use Rattle.elimination.proofs.columns.clear_part.Statement.{statement}
+use Rattle.elimination.proofs.columns.clear_part.Tie as tie
 
 abbrev Inv-loop : tie.InvT-loop
 Inv-loop words₀ indexes₀ from by along at₀ words indexes at =

@@ -1,4 +1,4 @@
--- `eliminate`: after c turns the first c words are a basis of the model, and the words after them are cleared by it.
+-- `reduce`: after c turns the first c words are a basis of the model, and the words after them are cleared by it.
 use mathlib.Core.Path.{refl, sym, _∙_}
 use Prim.Native.Nat.{ℕ, _-_, _≤_}
 use native.Mathlib.Omega.{arith}
@@ -8,11 +8,11 @@ use Rattle.net.specs.Scrambling.{plain}
 use Rattle.net.specs.Elimination.{Additive, interval}
 use Rattle.net.proofs.Interval.{interval-additive}
 use Rattle.plan.specs.Pair.{generators}
-use Rattle.stratify.specs.Basis.{Long}
-use Rattle.stratify.proofs.Refinement.{Pending, Begun, begun, pending-none, pending-kernel, pending-more}
-use Rattle.stratify.proofs.Refinement.{eliminates-kernel, eliminates-basis}
-use Rattle.stratify.proofs.elimination.eliminate.Statement.{statement}
-use Rattle.stratify.proofs.elimination.eliminate.Tie as tie
+use Rattle.elimination.specs.Basis.{Long}
+use Rattle.elimination.proofs.Refinement.{Pending, Begun, begun, pending-none, pending-kernel, pending-more}
+use Rattle.elimination.proofs.Refinement.{eliminates-kernel, eliminates-basis}
+use Rattle.elimination.proofs.columns.reduce.Statement.{statement}
+use Rattle.elimination.proofs.columns.reduce.Tie as tie
 
 abbrev Inv-loop : tie.InvT-loop
 Inv-loop m a asked n words₀ indexes₀ c₀ words indexes c =
@@ -127,8 +127,8 @@ returns-2 c =
     eliminates-basis (s .pre) (s .args .asked) (l .c) (l .words) (l .indexes) (omega arith)
     (l .inv .2 (L s) A (start (c .before .before .before .before)))
 
-pub eliminate-spec : {M : Type 1} → statement M
-eliminate-spec =
+pub reduce-spec : {M : Type 1} → statement M
+reduce-spec =
     tie.close
     (tie.spec
     Inv-loop

@@ -25,8 +25,8 @@ use Rattle.net.proofs.Elimination.{eliminate-ends, eliminate-stops, eliminate-g
 use Rattle.net.proofs.Basis.{eliminated}
 use Rattle.net.proofs.Two.{trailing-zeros}
 use Rattle.word.specs.Matrices.{pair}
-use Rattle.stratify.specs.Basis.{entries, Images, Sweeps, added, Clears, Eliminates}
-use Rattle.stratify.proofs.Reduction.{sweep-none, sweep-more, reduced, imaged}
+use Rattle.elimination.specs.Basis.{entries, Images, Sweeps, added, Clears, Eliminates}
+use Rattle.elimination.proofs.Reduction.{sweep-none, sweep-more, reduced, imaged}
 
 -- the lowest bit of a word
 abbrev pub choice : Choice 2 32

@@ -1,5 +1,5 @@
--- What the inner functions of the elimination promise one another, over arrays of words beside their indexes, and the notions by which the
--- proofs relate them to the model. No public contract cites this file.
+-- What the functions of the elimination promise one another, over arrays of words beside their indexes, and the notions by which the
+-- proofs relate them to the model. Other crates cite only `Eliminates` and `EliminatesAny`.
 use mathlib.Core.Path.{_≡_}
 use mathlib.Core.Logic.{_≢_, _⊎_}
 use mathlib.Core.List.{List, [], _∷_}
@@ -69,3 +69,8 @@ Stays from to old new = (d : ℕ) → (d < from) ⊎ (to ≤ d) → getD new d 0
 pub record Eliminates (G : Generators) (m a asked kernel index : ℕ) : Type 0 where
   pub least : kernel ≢ 0 → Least (plain G) m a kernel
   pub found : kernel ≡ 0 → (fs : List BasisEntry) × Solved G m a fs × (index ≡ solve 2 (interval (plain G) m a) fs asked)
+
+-- the same for all m and a: what is no shape has no kernel and the index 0
+pub record EliminatesAny (G : Generators) (m a asked kernel index : ℕ) : Type 0 where
+  pub shape : a ≤ m → m ≤ G .R → Eliminates G m a asked kernel index
+  pub other : (m < a) ⊎ (G .R < m) → (kernel ≡ 0) × (index ≡ 0)

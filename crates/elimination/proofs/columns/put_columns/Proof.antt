@@ -1,18 +1,20 @@
 -- `put_columns`: after c turns the first c columns stand beside their indexes.
 use mathlib.Core.Path.{_≡_, sym, ap₂, _∙_}
-use Prim.Native.Nat.{ℕ, _+_, _-_, _*_, _^_, _≤_}
+use Prim.Native.Nat.{ℕ, _+_, _-_, _*_, _^_, _≤_, _<_}
 use native.Mathlib.Omega.{arith}
+use borrow.Author.Needs.{needs}
 use lib.Pow.{pow-mono}
 use Rattle.net.specs.Scrambling.{plain}
 use Rattle.net.specs.Elimination.{interval}
 use Rattle.net.proofs.Interval.{interval-lt}
 use Rattle.word.specs.Matrices.{pair}
 use Rattle.word.proofs.Turn.{one-shifted}
+use Rattle.word.proofs.Joined.{joined-whole}
 use Rattle.plan.specs.Pair.{generators}
-use Rattle.stratify.proofs.Refinement.{interval-at}
-use Rattle.stratify.proofs.Clearing.{Putting, putting-none, putting-more}
-use Rattle.stratify.proofs.elimination.put_columns.Statement.{statement}
-use Rattle.stratify.proofs.elimination.put_columns.Tie as tie
+use Rattle.elimination.proofs.Refinement.{interval-at}
+use Rattle.elimination.proofs.Clearing.{Putting, putting-none, putting-more}
+use Rattle.elimination.proofs.columns.put_columns.Statement.{statement}
+use Rattle.elimination.proofs.columns.put_columns.Tie as tie
 
 abbrev Inv-loop : tie.InvT-loop
 Inv-loop m a words₀ indexes₀ x y n c₀ words indexes c = (c ≤ m) × Putting (interval (plain (pair x y)) m a) c words indexes
@@ -39,7 +41,7 @@ array-read-top : tie.Need-array-read-top Inv-loop μ-loop
 array-read-top c = omega arith
 
 top-requires : tie.Need-top-requires Inv-loop μ-loop
-top-requires c κs = omega arith
+top-requires c κs = search needs
 
 mul-top-2 : tie.Need-mul-top-2 Inv-loop μ-loop
 mul-top-2 c = omega arith
@@ -51,19 +53,23 @@ sub-top : tie.Need-sub-top Inv-loop μ-loop
 sub-top c = omega arith
 
 top-requires-2 : tie.Need-top-requires-2 Inv-loop μ-loop
-top-requires-2 c κs = omega arith
+top-requires-2 c κs = search needs
 
 sub-join : tie.Need-sub-join Inv-loop μ-loop
 sub-join c = omega arith
 
-join-requires : tie.Need-join-requires Inv-loop μ-loop
-join-requires c κs =
+-- it is a word
+fits : (c : tie.After-top2 Inv-loop μ-loop) → let s = c .before .before .before .before .before .before .before .before in
+    c .before .top .result * 2 ^ (s .args .m - s .args .a) + c .top2 .result < 2 ^ 32
+fits c =
     let s = c .before .before .before .before .before .before .before .before in
     let small = interval-lt (s .pre .0) (2 ^ c .before .before .before .loop .c) in
     let wide : 2 ^ s .args .m ≤ 2 ^ 32 = pow-mono (s .pre .0 .fits) in
     let e = cell c in
-    let f = s .pre .0 .fits in
-    (omega arith, omega arith)
+    omega arith
+
+join-requires : tie.Need-join-requires Inv-loop μ-loop
+join-requires c κs = search needs
 
 mul-words : tie.Need-mul-words Inv-loop μ-loop
 mul-words c = omega arith
@@ -93,7 +99,8 @@ loop-again : tie.Need-loop-again Inv-loop μ-loop
 loop-again c =
     let l = c .before .before .before .before .loop in
     let f = c .before .before .before .before .before .before .before .before .before .pre .0 .fits in
-    (omega arith, putting-more (l .inv .1) (omega arith) (c .join .result) _ (c .join .ensures ∙ cell (c .before)) (one-shifted (l .c) (omega arith)))
+    let column = joined-whole _ _ _ (c .join .ensures) (fits (c .before)) ∙ cell (c .before) in
+    (omega arith, putting-more (l .inv .1) (omega arith) (c .join .result) _ column (one-shifted (l .c) (omega arith)))
 
 same-length : tie.Need-same-length Inv-loop μ-loop
 same-length c = c .before .loop .inv .1 .long-words ∙ sym (c .before .before .before .before .before .before .pre .1 .0)

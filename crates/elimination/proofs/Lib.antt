@@ -1,0 +1,3 @@
+pub mod Reduction
+pub mod Clearing
+pub mod Refinement
