@@ -1,3 +1,4 @@
 pub mod Reduction
 pub mod Clearing
 pub mod Refinement
+pub mod Determinant

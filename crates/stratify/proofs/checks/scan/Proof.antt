@@ -7,6 +7,7 @@ use Rattle.linear.proofs.Prime.{two}
 use Rattle.net.specs.Check.{NoneBefore}
 use Rattle.net.proofs.Scan.{scan-next, scan-row, scan-all, scan-stops}
 use Rattle.plan.specs.Pair.{generators}
+use Rattle.elimination.proofs.Determinant.{determinant-nonzero}
 use Rattle.stratify.specs.Answers.{of-verdict}
 use Rattle.stratify.proofs.checks.scan.Statement.{statement}
 use Rattle.stratify.proofs.checks.scan.Tie as tie
@@ -41,9 +42,7 @@ loop-less c = omega arith
 loop-again : tie.Need-loop-again Inv-loop μ-loop
 loop-again c =
     let l = c .before .before .before .before .loop in
-    let e = c .before .before .eliminate in
-    let good : e .result .kernel ≡ 0 = omega arith in
-    let odd = e .ensures .shape (l .inv .1) (omega arith) .found good .1 .nonzero in
+    let odd = determinant-nonzero (c .before .before .eliminate .ensures) (l .inv .1) (omega arith) (omega arith) in
     (omega arith, omega arith, omega arith, scan-next _ (l .m) (l .a) (l .inv .3) odd)
 
 add-m : tie.Need-add-m Inv-loop μ-loop
@@ -55,9 +54,7 @@ loop-less-2 c = omega arith
 loop-again-2 : tie.Need-loop-again-2 Inv-loop μ-loop
 loop-again-2 c =
     let l = c .before .before .before .before .loop in
-    let e = c .before .before .eliminate in
-    let good : e .result .kernel ≡ 0 = omega arith in
-    let odd = e .ensures .shape (l .inv .1) (omega arith) .found good .1 .nonzero in
+    let odd = determinant-nonzero (c .before .before .eliminate .ensures) (l .inv .1) (omega arith) (omega arith) in
     (omega arith, omega arith, omega arith, scan-row _ (l .m) (l .a) (omega arith) (l .inv .3) odd)
 
 returns-2 : tie.Need-returns-2 Inv-loop μ-loop

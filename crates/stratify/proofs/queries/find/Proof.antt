@@ -12,6 +12,7 @@ use Rattle.net.proofs.Interval.{block-lt}
 use Rattle.net.proofs.Query.{locate-found, locate-no-net}
 use Rattle.word.proofs.Joined.{joined-whole}
 use Rattle.plan.specs.Pair.{generators, scrambling, sequence}
+use Rattle.elimination.proofs.Determinant.{determinant-nonzero}
 use Rattle.stratify.specs.Answers.{of-location}
 use Rattle.stratify.proofs.Cell.{answer}
 use Rattle.stratify.proofs.queries.find.Statement.{statement}
@@ -70,7 +71,7 @@ returns-2 c =
     let d = c .before in
     let s = d .before .before .before in
     let a = s .args in
-    let odd = d .before .eliminate .ensures .shape (s .pre .2 .wide) (s .pre .2 .size) .found (no-kernel d) .1 .nonzero in
+    let odd = determinant-nonzero (d .before .eliminate .ensures) (s .pre .2 .wide) (s .pre .2 .size) (no-kernel d) in
     sym (ap (of-location (a .m) (a .a))
     (locate-found (generators (a .plan)) (scrambling (a .shift)) (a .m) (a .a) (a .block) (a .column) (a .row)
     (c .join .result) odd (subst (Only (Lies s)) (sym (joined-whole _ _ _ (c .join .ensures) (fits d))) (only d))))
