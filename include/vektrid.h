@@ -34,7 +34,7 @@ enum vektrid_refusal {
     VEKTRID_INDEX_RANGE = 9,     /* start + count is above 2^32 */
     VEKTRID_REGION = 10,         /* an edge or an extent of a region is outside its limits */
     VEKTRID_FILE_LENGTH = 11,    /* a file is empty, over 65,536 bytes, or not whole records */
-    VEKTRID_HEADER = 12,         /* bytes 8 to 31 of record 0 are not all zero */
+    VEKTRID_RESERVED_BYTES = 12, /* bytes 8 to 31 of record 0 are not all zero */
     VEKTRID_MISSING_RECORD = 13, /* the chain names a record that the file lacks */
     VEKTRID_CHAIN_RETURNS = 14,  /* the chain returns to a record */
     VEKTRID_VISIT_COUNT = 15     /* a record has more than 4,096 visits */

@@ -30,7 +30,7 @@ import sys
 from typing import NamedTuple
 
 __all__ = ['Refusal', 'WordCount', 'Level', 'NotNet', 'Size', 'Shape', 'Cell', 'Block', 'BufferLengths', 'IndexRange', 'RegionLimits',
-           'FileLength', 'Header', 'MissingRecord', 'ChainReturns', 'VisitCount', 'Point', 'Singles', 'Visit', 'SinglesVisit', 'Position',
+           'FileLength', 'ReservedBytes', 'MissingRecord', 'ChainReturns', 'VisitCount', 'Point', 'Singles', 'Visit', 'SinglesVisit', 'Position',
            'FileVisit', 'Pair', 'Walk', 'SinglesWalk', 'Region', 'standard_point', 'double', 'single', 'judge', 'visits', 'listing',
            'listing_pieces', 'LARGEST_LEVEL', 'LAST_INDEX', 'LONGEST_LINE']
 
@@ -126,7 +126,7 @@ class FileLength(Refusal):
     words = 'a file of {size} bytes is no region file: it has whole records of 32 bytes, at least one, and at most 65536 bytes'
 
 
-class Header(Refusal):
+class ReservedBytes(Refusal):
     """12: bytes 8 to 31 of record 0 of a region file are not all zero."""
     number = 12
     words = 'byte {place} of record 0 is {byte}; bytes 8 to 31 must be 0'
@@ -615,7 +615,7 @@ def _accept_file(number, file):
         _accept(number, size=len(file))
     elif number == Level.number:
         _accept(number, level=struct.unpack_from('<I', file, 4)[0])
-    elif number == Header.number:
+    elif number == ReservedBytes.number:
         place = next(place for place in range(8, 32) if file[place])
         _accept(number, place=place, byte=file[place])
     elif number:
@@ -625,7 +625,7 @@ def _accept_file(number, file):
 def judge(file):
     """Judges a whole region file, given as bytes. Gives None.
 
-    Refused: FileLength, Level, Header, then at each link of the chain MissingRecord, ChainReturns, RegionLimits, VisitCount.
+    Refused: FileLength, Level, ReservedBytes, then at each link of the chain MissingRecord, ChainReturns, RegionLimits, VisitCount.
     """
     file = _content(file)
     _accept_file(_library.vektrid_judge(file, len(file)), file)

@@ -1,6 +1,6 @@
 -- The one term for specs/Theorem. Assumes nothing.
 use Prim.Native.Nat.{ℕ, _<_}
-use Rattle.digits.specs.Theorem.{Determined, DigitByDigit, Group, Parts, ExclusiveOr, Reversal, Theorems}
+use Rattle.digits.specs.Theorem.{Determined, DigitByDigit, CommutativeGroup, Parts, ExclusiveOr, Reversal, Theorems}
 use Rattle.digits.proofs.Digit as D
 use Rattle.digits.proofs.Arithmetic as A
 use Rattle.digits.proofs.Two as T
@@ -17,7 +17,7 @@ determined big = record {
 digit-by-digit : {b : ℕ} → 1 < b → DigitByDigit b
 digit-by-digit big = record { plus-digit = A.digit-plus big; minus-digit = A.digit-minus big; times-digit = A.digit-times big }
 
-group : {b : ℕ} → 1 < b → Group b
+group : {b : ℕ} → 1 < b → CommutativeGroup b
 group big = record {
   associative = A.plus-assoc big;
   commutative = A.plus-comm big;

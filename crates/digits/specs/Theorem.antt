@@ -19,7 +19,7 @@ pub record DigitByDigit (b : ℕ) : Type 0 where
   pub times-digit : (t n k : ℕ) → digit b k (times b t n) ≡ t * digit b k n % b
 
 -- the sum is a commutative group, and the difference is its difference
-pub record Group (b : ℕ) : Type 0 where
+pub record CommutativeGroup (b : ℕ) : Type 0 where
   pub associative : (m n p : ℕ) → plus b (plus b m n) p ≡ plus b m (plus b n p)
   pub commutative : (m n : ℕ) → plus b m n ≡ plus b n m
   pub neutral : (n : ℕ) → plus b n 0 ≡ n
@@ -56,7 +56,7 @@ pub record Reversal (b : ℕ) : Type 0 where
 pub record Theorems : Type 0 where
   pub determined : {b : ℕ} → 1 < b → Determined b
   pub digit-by-digit : {b : ℕ} → 1 < b → DigitByDigit b
-  pub group : {b : ℕ} → 1 < b → Group b
+  pub group : {b : ℕ} → 1 < b → CommutativeGroup b
   pub parts : {b : ℕ} → 1 < b → Parts b
   pub exclusive-or : ExclusiveOr
   pub reversal : {b : ℕ} → 1 < b → Reversal b

@@ -40,7 +40,10 @@ fn put_columns(plan: Plan, m: u32, a: u32, words: &mut [u32], indexes: &mut [u32
     }
 }
 
-// A mask of all ones if a word has the lowest set bit of another, and else of zeros.
+// The mask that keeps every bit of a word.
+const ALL_ONES: u32 = 4294967295;
+
+// All ones if a word has the lowest set bit of another, and else 0.
 fn spread(word: u32, by: u32) -> u32
     requires { ⌜ by ≢ 0 ⌝ }
     ensures { λ r. ⌜ r ≡ word / 2 ^ trailingZeros 32 by % 2 * 4294967295 ⌝ }
@@ -48,7 +51,7 @@ fn spread(word: u32, by: u32) -> u32
     if word & (1 << u32::trailing_zeros(by)) == 0 {
         return 0;
     }
-    4294967295
+    ALL_ONES
 }
 
 // Clears the words of a part at the lowest set bit of one word, and adds that word's index to the indexes of those that had the bit.

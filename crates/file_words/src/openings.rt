@@ -2,7 +2,7 @@
 use crate::file_walks::FileWalkWords;
 use crate::file_walks::words_of;
 use visits::FileWalk;
-use visits::Opened;
+use visits::OpenedFile;
 ghost use mathlib.Core.Path.{_≡_};
 ghost use Rattle.visits.specs.Visits.{visits-outcome};
 ghost use Rattle.answers.specs.Answers.{answer-number};
@@ -21,11 +21,11 @@ pub fn open_words(file: &[u8], walk: FileWalkWords) -> OpenedWords
 {
     let opened = FileWalk::open(file);
     match opened {
-        Opened::Refused(why) => OpenedWords {
+        OpenedFile::Refused(why) => OpenedWords {
             answer: why.number(),
             walk,
         },
-        Opened::Open(start) => OpenedWords {
+        OpenedFile::Open(start) => OpenedWords {
             answer: 0,
             walk: words_of(start),
         },

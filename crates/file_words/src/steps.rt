@@ -2,7 +2,7 @@
 use crate::file_walks::FileWalkWords;
 use crate::file_walks::walk_of;
 use crate::file_walks::words_of;
-use visits::Step;
+use visits::FileStep;
 ghost use mathlib.Core.Path.{_≡_};
 ghost use Rattle.file_words.specs.FileWalks.{visits-by-words, all-but-first, visit-given, visit-words, visit-left};
 
@@ -34,7 +34,7 @@ pub fn step_words(
     let stepped = start.step(file);
     let after = words_of(stepped.walk);
     let step = stepped.step;
-    let Step::Visited(visit) = step else {
+    let FileStep::Visited(visit) = step else {
         return SteppedWords {
             walk: after,
             given: 0,

@@ -2,7 +2,7 @@
 use crate::print;
 use listing::Cursor;
 
-// A word from a byte offset on, little-endian.
+// A word from a byte on, little-endian.
 fn put_word(file: &mut [u8], at: usize, word: u32) {
     let bytes = [
         (word % 256) as u8,
@@ -38,7 +38,7 @@ fn answer_line(file: &[u8], length: u32) {
     print::judgement_line(region_file::judge(&file[..n]), b"accepted");
 }
 
-// The base file with a word put at each of two byte offsets, one after the other, and then cut to a length.
+// The base file with a word put at each of two bytes, one after the other, and then cut to a length.
 fn file_line(length: u32, at: u32, word: u32, at_2: u32, word_2: u32) {
     let mut file = [0u8; 96];
     put_base(&mut file);

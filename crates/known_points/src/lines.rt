@@ -1,6 +1,6 @@
 // The sections that have a line for each number from 0 on.
 use crate::pairs;
-use crate::places;
+use crate::positions;
 use crate::print;
 use crate::units;
 use plan::Plan;
@@ -24,8 +24,8 @@ pub enum Section {
     // The unit numbers of a word about a power of two.
     Units,
     // The position and the singles of an index.
-    FirstPlaces,
-    SecondPlaces,
+    FirstVisits,
+    SecondVisits,
 }
 
 pub fn lines(section: Section, count: u32) {
@@ -48,8 +48,8 @@ fn line(section: Section, i: u32) {
         Section::Cells { m } => cell_line(m, i),
         Section::Largest => query_line(pairs::other(), pairs::other_shift(), 32, 32, i, 0, 0, 0),
         Section::Units => units::unit_line(i),
-        Section::FirstPlaces => places::first_place_line(i),
-        Section::SecondPlaces => places::second_place_line(i),
+        Section::FirstVisits => positions::first_visit_line(i),
+        Section::SecondVisits => positions::second_visit_line(i),
     }
 }
 

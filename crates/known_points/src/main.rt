@@ -4,7 +4,7 @@
 mod files;
 mod lines;
 mod pairs;
-mod places;
+mod positions;
 mod print;
 mod single;
 mod units;
@@ -19,8 +19,8 @@ fn main() {
     single::fills();
     single::walks();
     units::units();
-    places::places();
-    places::positions();
+    positions::visits();
+    positions::positions();
     units::steps();
     files::files();
     files::long();

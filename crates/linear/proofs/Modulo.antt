@@ -106,7 +106,7 @@ module _ {p : ℕ} (P : Prime p) where
         vector = λ c. N .vector c % p;
         digits = λ c. mod-lt (N .vector c) (omega arith);
         spot = N .spot;
-        inside = N .inside;
+        spot-below = N .spot-below;
         nonzero = λ e. N .nonzero (rw (next big) (dvd-of-mod-eq-zero p e));
         null = λ i l.
             sum-cong p n (λ c. A i c * (N .vector c % p)) (λ c. A i c * N .vector c) (λ c m. mul-mod p (A i c) (N .vector c))
@@ -115,8 +115,8 @@ module _ {p : ℕ} (P : Prime p) where
 
   -- ---- more columns than rows, or determinant 0
 
-  pub wide : (r n : ℕ) (A : Matrix) → r < n → Kernel p r n A
-  wide r n A h = reduce r n A (K.wide shifted r n A h)
+  pub more-columns : (r n : ℕ) (A : Matrix) → r < n → Kernel p r n A
+  more-columns r n A h = reduce r n A (K.more-columns shifted r n A h)
 
   pub singular : (n : ℕ) (A : Matrix) → det p n A ≡ 0 → Kernel p n n A
   singular n A e = reduce n n A (K.singular shifted n A (zero→dvd (P .big) n A e))
@@ -134,5 +134,5 @@ module _ {p : ℕ} (P : Prime p) where
   pub nonzero-iff : (n : ℕ) (A : Matrix) → (det p n A ≢ 0) ↔ Trivial p n A
   nonzero-iff n A = (
     λ ne v digits z k h. sym (mod-eq-of-lt (digits k h)) ∙ regular n A ne v z k h,
-    λ only e. let N = singular n A e in N .nonzero (only (N .vector) (λ c l. N .digits c) (N .null) (N .spot) (N .inside)),
+    λ only e. let N = singular n A e in N .nonzero (only (N .vector) (λ c l. N .digits c) (N .null) (N .spot) (N .spot-below)),
   )

@@ -19,7 +19,7 @@ pub record DeterminantLaws (p : ℕ) : Type 0 where
   -- not 0 exactly where only 0 is sent to 0
   pub nonzero-iff : (n : ℕ) (A : Matrix) → (det p n A ≢ 0) ↔ Trivial p n A
   -- more columns than rows, or a square matrix with determinant 0
-  pub wide : (r n : ℕ) (A : Matrix) → r < n → Kernel p r n A
+  pub more-columns : (r n : ℕ) (A : Matrix) → r < n → Kernel p r n A
   pub singular : (n : ℕ) (A : Matrix) → det p n A ≡ 0 → Kernel p n n A
   -- each right-hand side has exactly one solution
   pub solution : (n : ℕ) (A : Matrix) → det p n A ≢ 0 → (y : ℕ → ℕ) → ((r : ℕ) → r < n → y r < p) → One (Solves p n A y)

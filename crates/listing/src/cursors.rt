@@ -2,7 +2,7 @@
 use crate::lines::LONGEST_LINE;
 use crate::lines::put_lines;
 use visits::FileWalk;
-use visits::Opened;
+use visits::OpenedFile;
 ghost use mathlib.Core.Path.{_≡_};
 ghost use Prim.Native.Nat.{_≤_};
 ghost use lib.ListN.{length, take, drop};
@@ -18,6 +18,7 @@ pub enum Lead {
     Refused(u32),
 }
 
+// Where a listing goes on: what stands before the next lines, and the walk whose visits they show.
 pub struct Cursor {
     pub lead: Lead,
     pub walk: FileWalk,
@@ -29,6 +30,7 @@ pub struct Piece {
     pub next: Cursor,
 }
 
+// Writes what stands before the lines, and hands back where it ends.
 fn put_lead(lead: Lead, out: &mut [u8]) -> usize
     requires { ⌜ longest-line ≤ length (now out) ⌝ }
     ensures end { λ r. ⌜ r ≡ length (lead-text lead) ⌝ }
@@ -51,11 +53,11 @@ impl Cursor {
     {
         let opened = FileWalk::open(file);
         match opened {
-            Opened::Open(walk) => Cursor {
+            OpenedFile::Open(walk) => Cursor {
                 lead: Lead::Header,
                 walk,
             },
-            Opened::Refused(why) => Cursor {
+            OpenedFile::Refused(why) => Cursor {
                 lead: Lead::Refused(why.number()),
                 walk: FileWalk::ended(),
             },
@@ -74,10 +76,10 @@ impl Cursor {
         let lead = self.lead;
         let start = self.walk;
         let at = put_lead(lead, out);
-        let filled = put_lines(file, start, out, at);
-        let walk = filled.walk;
+        let reached = put_lines(file, start, out, at);
+        let walk = reached.walk;
         Piece {
-            len: filled.len,
+            len: reached.len,
             next: Cursor {
                 lead: Lead::Nothing,
                 walk,

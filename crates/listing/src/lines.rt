@@ -1,7 +1,7 @@
 // The lines of visits, as many as have room.
+use visits::FileStep;
 use visits::FileVisit;
 use visits::FileWalk;
-use visits::Step;
 ghost use mathlib.Core.Path.{_≡_};
 ghost use Prim.Native.Nat.{_+_, _≤_};
 ghost use lib.ListN.{length};
@@ -12,7 +12,8 @@ ghost use Rattle.listing.specs.Lines.{LinesPut};
 // The length of the longest line: two numbers and two signed numbers, each with the byte after it.
 pub(crate) const LONGEST_LINE: usize = 2 * text::LONGEST_NUMBER + 2 * text::LONGEST_SIGNED;
 
-pub(crate) struct Filled {
+// How far the lines reach in the buffer, and the walk after them.
+pub(crate) struct Reached {
     pub len: usize,
     pub walk: FileWalk,
 }
@@ -32,7 +33,7 @@ fn put_line(visit: FileVisit, out: &mut [u8], at: usize) -> usize
 }
 
 // The lines to come from a walk, each while the longest line has room.
-pub(crate) fn put_lines(file: &[u8], start: FileWalk, out: &mut [u8], at: usize) -> Filled
+pub(crate) fn put_lines(file: &[u8], start: FileWalk, out: &mut [u8], at: usize) -> Reached
     requires { ⌜ at ≤ length (now out) ⌝ }
     ensures { λ r. ⌜ LinesPut (now (file .entry)) start (now (out .entry)) at (r .walk) (now (out .exit)) (r .len) ⌝ }
 {
@@ -43,10 +44,10 @@ pub(crate) fn put_lines(file: &[u8], start: FileWalk, out: &mut [u8], at: usize)
         let answer = stepped.step;
         let next = stepped.walk;
         walk = next;
-        let Step::Visited(visit) = answer else {
-            return Filled { len, walk };
+        let FileStep::Visited(visit) = answer else {
+            return Reached { len, walk };
         };
         len = put_line(visit, out, len);
     }
-    Filled { len, walk }
+    Reached { len, walk }
 }

@@ -15,7 +15,7 @@ use Rattle.linear.specs.Solution.{Trivial}
 use Rattle.linear.proofs.Prime.{two}
 use Rattle.linear.proofs.Sum.{sum-ext, sum-at}
 use Rattle.linear.proofs.Modulo.{nonzero-iff}
-use Rattle.minors.specs.Minors.{word-times, bit-cleared, AllCleared, Left, Lefts, Pivot, Pivots}
+use Rattle.minors.specs.Minors.{word-times, bit-cleared, AllCleared, Reduced, ReducedRows, Pivot, Pivots}
 
 -- ---- a word times a vector
 
@@ -58,20 +58,20 @@ digit-bit k w zero h = rw (mul-zero w) (digit-zero one-lt-two k ∙ sym (mul-zer
 digit-bit k w (suc zero) h = rw (mul-one w) (sym (mul-one (digit 2 k w)))
 digit-bit k w (suc (suc d)) h = absurd (omega arith)
 
--- ---- rows that are left
+-- ---- rows reduced by the rows above them
 
 module _ {A : Matrix} where
   -- a row itself
-  pub left-none : (r w : ℕ) → ((c : ℕ) → c < 32 → digit 2 c w ≡ A r c) → Left A 0 r w
-  left-none r w is = record {
+  pub reduced-none : (r w : ℕ) → ((c : ℕ) → c < 32 → digit 2 c w ≡ A r c) → Reduced A 0 r w
+  reduced-none r w is = record {
     low = λ c h. absurd (omega arith);
     follows = λ l v fits rows here.
         ap (λ (x : ℕ). x % 2) (sum-ext l (λ c h. ap (λ (x : ℕ). x * v c) (is c (omega arith)))) ∙ here;
   }
 
   -- one more row
-  pub left-next : {n r by w : ℕ} → Left A n n by → digit 2 n by ≡ 1 → Left A n r w → Left A (suc n) r (bit-cleared by n w)
-  left-next {n} {r} {by} {w} P one L = record {
+  pub reduced-next : {n r by w : ℕ} → Reduced A n n by → digit 2 n by ≡ 1 → Reduced A n r w → Reduced A (suc n) r (bit-cleared by n w)
+  reduced-next {n} {r} {by} {w} P one L = record {
     low = λ c h. digit-xor w (by * digit 2 n w) c ∙ low c h (lt-or-ge c n);
     follows = λ l v fits rows here.
         times-xor l w (by * digit 2 n w) v ∙ ap₂ (λ (x y : ℕ). (x + y) % 2)
@@ -90,16 +90,16 @@ module _ {A : Matrix} where
           let twice : digit 2 n (by * d) ≡ 1 * d = digit-bit n by d (digit-lt one-lt-two n w) ∙ ap (λ (x : ℕ). x * d) one in
           rw e (ap (λ (y : ℕ). (d + y) % 2) twice ∙ omega arith)
 
-  pub lefts-next : {n by : ℕ} (s : ℕ) (words out : List ℕ) → Left A n n by → digit 2 n by ≡ 1 → AllCleared by n words out → Lefts A n s words
-      → Lefts A (suc n) s out
-  lefts-next {n} s words out P one all L t h = subst (Left A (suc n) (s + t)) (sym (all t h)) (left-next P one (L t h))
+  pub reduced-rows-next : {n by : ℕ} (s : ℕ) (words out : List ℕ) → Reduced A n n by → digit 2 n by ≡ 1 → AllCleared by n words out
+      → ReducedRows A n s words → ReducedRows A (suc n) s out
+  reduced-rows-next {n} s words out P one all L t h = subst (Reduced A (suc n) (s + t)) (sym (all t h)) (reduced-next P one (L t h))
 
-  pub pivots-next : {n : ℕ} (by : ℕ) → Left A n n by → digit 2 n by ≡ 1 → Pivots A n → Pivots A (suc n)
+  pub pivots-next : {n : ℕ} (by : ℕ) → Reduced A n n by → digit 2 n by ≡ 1 → Pivots A n → Pivots A (suc n)
   pivots-next {n} by P one old k h = go (lt-or-ge k n)
     where
       go : (k < n) ⊎ (n ≤ k) → Pivot A k
       go (inl l) = old k l
-      go (inr l) = let e : k ≡ n = omega arith in rw e (record { word = by; left = P; one = one })
+      go (inr l) = let e : k ≡ n = omega arith in rw e (record { word = by; reduced = P; one = one })
 
   -- back from the last row: only 0 is sent to 0
   pub pivots-trivial : {m : ℕ} → m ≤ 32 → Pivots A m → Trivial 2 m A
@@ -112,13 +112,13 @@ module _ {A : Matrix} where
 
       at : (k : ℕ) → k < m → ((i : ℕ) → i < m → k < i → v i ≡ 0) → v k ≡ 0
       at k h after = zero-of (v k) (digit 2 k (P k h .word)) (digits k h) (P k h .one) (sum-at 2 m k f h other .1
-          (dvd-of-mod-eq-zero 2 (P k h .left .follows m v fits (λ i l. null i (omega arith)) (null k h))))
+          (dvd-of-mod-eq-zero 2 (P k h .reduced .follows m v fits (λ i l. null i (omega arith)) (null k h))))
         where
           f : ℕ → ℕ
           f c = digit 2 c (P k h .word) * v c
 
           null-at : (i : ℕ) → i < m → i ≢ k → (i < k) ⊎ (k ≤ i) → f i ≡ 0
-          null-at i l ne (inl g) = ap (λ (x : ℕ). x * v i) (P k h .left .low i g) ∙ omega arith
+          null-at i l ne (inl g) = ap (λ (x : ℕ). x * v i) (P k h .reduced .low i g) ∙ omega arith
           null-at i l ne (inr g) = ap (λ (x : ℕ). digit 2 i (P k h .word) * x) (after i l (omega arith)) ∙ mul-zero (digit 2 i (P k h .word))
 
           other : (i : ℕ) → i < m → i ≢ k → 2 ∣ f i
@@ -137,8 +137,8 @@ module _ (A B : Matrix) where
   image-same : (l : ℕ) (v : ℕ → ℕ) (r s : ℕ) → ((c : ℕ) → A r c ≡ B s c) → image 2 l A v r ≡ image 2 l B v s
   image-same l v r s e = ap (λ (x : ℕ). x % 2) (sum-ext l (λ c h. ap (λ (x : ℕ). x * v c) (e c)))
 
-  pub left-same : {n r w : ℕ} (s : ℕ) → ((i c : ℕ) → i < n → A i c ≡ B i c) → ((c : ℕ) → A r c ≡ B s c) → Left A n r w → Left B n s w
-  left-same {n} {r} {w} s above here L = record {
+  pub reduced-same : {n r w : ℕ} (s : ℕ) → ((i c : ℕ) → i < n → A i c ≡ B i c) → ((c : ℕ) → A r c ≡ B s c) → Reduced A n r w → Reduced B n s w
+  reduced-same {n} {r} {w} s above here L = record {
     low = L .low;
     follows = λ l v fits rows row. L .follows l v fits (λ i h. image-same l v i i (λ c. above i c h) ∙ rows i h) (image-same l v r s here ∙ row);
   }
@@ -146,6 +146,6 @@ module _ (A B : Matrix) where
   pub pivots-same : {n : ℕ} → ((i c : ℕ) → i < n → A i c ≡ B i c) → Pivots A n → Pivots B n
   pivots-same above P k h = record {
     word = P k h .word;
-    left = left-same k (λ i c l. above i c (omega arith)) (λ c. above k c h) (P k h .left);
+    reduced = reduced-same k (λ i c l. above i c (omega arith)) (λ c. above k c h) (P k h .reduced);
     one = P k h .one;
   }

@@ -14,24 +14,24 @@ use Rattle.net.specs.Generators.{entry}
 use Rattle.net.specs.Shape.{matrix}
 use Rattle.net.specs.Check.{NoneBefore}
 use Rattle.word.specs.Matrices.{pair}
-use Rattle.minors.specs.Minors.{AllCleared, Left, Lefts, Pivots, Reaches, FirstDoubt, AreRows}
-use Rattle.minors.proofs.Pivots.{left-none, lefts-next, pivots-next, pivots-nonzero, left-same, pivots-same}
+use Rattle.minors.specs.Minors.{AllCleared, Reduced, ReducedRows, Pivots, Reaches, FirstDoubt, AreRows}
+use Rattle.minors.proofs.Pivots.{reduced-none, reduced-rows-next, pivots-next, pivots-nonzero, reduced-same, pivots-same}
 
 -- ---- one a: from the words that its first a rows leave, the rows up to m are reduced, and the words in hand are what they leave
 
 abbrev pub Going : List ℕ → ℕ → List ℕ → ℕ → Type 0
-Going words a left m = (A : Matrix) → Lefts A a a words → Pivots A a → Pivots A m × Lefts A m a left
+Going words a reduced m = (A : Matrix) → ReducedRows A a a words → Pivots A a → Pivots A m × ReducedRows A m a reduced
 
 pub going-none : (words : List ℕ) (a : ℕ) → Going words a words a
 going-none words a A L P = (P, L)
 
-pub going-more : (words left out : List ℕ) (a m : ℕ) → Going words a left m → a ≤ m → m < 32 → digit 2 m (getD left (m - a) 0) ≡ 1
-    → AllCleared (getD left (m - a) 0) m left out → Going words a out (m + 1)
-going-more words left out a m going l h one all A L P =
+pub going-more : (words reduced out : List ℕ) (a m : ℕ) → Going words a reduced m → a ≤ m → m < 32 → digit 2 m (getD reduced (m - a) 0) ≡ 1
+    → AllCleared (getD reduced (m - a) 0) m reduced out → Going words a out (m + 1)
+going-more words reduced out a m going l h one all A L P =
     let (old, rest) = going A L P in
     let e : a + (m - a) ≡ m = omega arith in
-    let by : Left A m m (getD left (m - a) 0) = subst (λ (r : ℕ). Left A m r (getD left (m - a) 0)) e (rest (m - a) (omega arith)) in
-    rw (add-one m) (pivots-next (getD left (m - a) 0) by one old, lefts-next a left out by one all rest)
+    let by : Reduced A m m (getD reduced (m - a) 0) = subst (λ (r : ℕ). Reduced A m r (getD reduced (m - a) 0)) e (rest (m - a) (omega arith)) in
+    rw (add-one m) (pivots-next (getD reduced (m - a) 0) by one old, reduced-rows-next a reduced out by one all rest)
 
 -- ---- all a
 
@@ -67,8 +67,8 @@ first-doubt-within top at r a s earlier l h = go (lt-or-ge r top)
 -- below `at` the next row too
 pub record Scanned (X Y : List ℕ) (a top at : ℕ) (x y : List ℕ) : Type 0 where
   pub pivots : Pivots (M X Y 32) a
-  pub x-left : Lefts (M X Y 32) a 0 x
-  pub y-left : Lefts (M X Y a) a a y
+  pub x-reduced : ReducedRows (M X Y 32) a 0 x
+  pub y-reduced : ReducedRows (M X Y a) a a y
   pub done : (d : ℕ) → d < a → Pivots (M X Y d) top
   pub edge : (d : ℕ) → d < at → (top < 32) × Pivots (M X Y d) (top + 1)
 
@@ -76,10 +76,10 @@ module _ {X Y : List ℕ} where
   pub scanned-none : (x y : List ℕ) (top : ℕ) → AreRows X x → AreRows Y y → Scanned X Y 0 top 0 x y
   scanned-none x y top xs ys = record {
     pivots = λ k h. absurd (omega arith);
-    x-left = λ t h.
+    x-reduced = λ t h.
         let e : 0 + t ≡ t = omega arith in
-        left-none (0 + t) (getD x t 0) (λ c l. xs t h c l ∙ sym (rw e (x-row X Y 32 t c h)));
-    y-left = λ t h. left-none (0 + t) (getD y t 0) (λ c l. ys t h c l ∙ sym (y-row X Y 0 t c));
+        reduced-none (0 + t) (getD x t 0) (λ c l. xs t h c l ∙ sym (rw e (x-row X Y 32 t c h)));
+    y-reduced = λ t h. reduced-none (0 + t) (getD y t 0) (λ c l. ys t h c l ∙ sym (y-row X Y 0 t c));
     done = λ d h. absurd (omega arith);
     edge = λ d h. absurd (omega arith);
   }
@@ -92,31 +92,31 @@ module _ {X Y : List ℕ} where
     -- ---- the next a
 
     module _ (fits : a < 32) where
-      by : Left (M X Y 32) a a (getD x a 0)
-      by = let e : 0 + a ≡ a = omega arith in subst (λ (r : ℕ). Left (M X Y 32) a r (getD x a 0)) e (S .x-left a fits)
+      by : Reduced (M X Y 32) a a (getD x a 0)
+      by = let e : 0 + a ≡ a = omega arith in subst (λ (r : ℕ). Reduced (M X Y 32) a r (getD x a 0)) e (S .x-reduced a fits)
 
       -- the row of X and the rows of Y in its matrix
-      next-by : Left (M X Y (suc a)) a a (getD x a 0)
-      next-by = left-same (M X Y 32) (M X Y (suc a)) a
+      next-by : Reduced (M X Y (suc a)) a a (getD x a 0)
+      next-by = reduced-same (M X Y 32) (M X Y (suc a)) a
           (λ i c h. same-x X Y 32 (suc a) i c (omega arith) (omega arith)) (λ c. same-x X Y 32 (suc a) a c fits (omega arith)) by
 
-      next-y : Lefts (M X Y (suc a)) a (suc a) y
-      next-y t h = left-same (M X Y a) (M X Y (suc a)) (suc a + t)
-          (λ i c g. same-x X Y a (suc a) i c g (omega arith)) (λ c. y-row X Y a t c ∙ sym (y-row X Y (suc a) t c)) (S .y-left t h)
+      next-y : ReducedRows (M X Y (suc a)) a (suc a) y
+      next-y t h = reduced-same (M X Y a) (M X Y (suc a)) (suc a + t)
+          (λ i c g. same-x X Y a (suc a) i c g (omega arith)) (λ c. y-row X Y a t c ∙ sym (y-row X Y (suc a) t c)) (S .y-reduced t h)
 
       pub scanned-next : {r s : ℕ} (x′ y′ : List ℕ) → top ≤ 32 → r ≤ top → Reaches y a r → FirstDoubt top at r a s → digit 2 a (getD x a 0) ≡ 1
           → AllCleared (getD x a 0) a x x′ → AllCleared (getD x a 0) a y y′ → Scanned X Y (suc a) r s x′ y′
       scanned-next {r} {s} x′ y′ small l reach earlier one xs ys = record {
         pivots = pivots-next (getD x a 0) by one (S .pivots);
-        x-left = lefts-next 0 x x′ by one xs (S .x-left);
-        y-left = lefts-next (suc a) y y′ next-by one ys next-y;
+        x-reduced = reduced-rows-next 0 x x′ by one xs (S .x-reduced);
+        y-reduced = reduced-rows-next (suc a) y y′ next-by one ys next-y;
         done = λ d h. done d h (lt-or-ge d a);
         edge = edge (lt-or-ge r top);
       }
         where
           done : (d : ℕ) → d < suc a → (d < a) ⊎ (a ≤ d) → Pivots (M X Y d) r
           done d h (inl g) = λ k q. S .done d g k (omega arith)
-          done d h (inr g) = let e : d ≡ a = omega arith in rw e (reach (M X Y a) (S .y-left) (own (omega arith)))
+          done d h (inr g) = let e : d ≡ a = omega arith in rw e (reach (M X Y a) (S .y-reduced) (own (omega arith)))
 
           edge : (r < top) ⊎ (top ≤ r) → (d : ℕ) → d < s → (r < 32) × Pivots (M X Y d) (r + 1)
           edge (inl g) d h = let e = earlier .0 g in (omega arith, λ k q. S .done d (omega arith) k (omega arith))

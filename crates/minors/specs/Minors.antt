@@ -24,18 +24,18 @@ AllCleared by c words out = (t : ℕ) → t < 32 → getD out t 0 ≡ bit-cleare
 
 -- The word w is row r of A reduced by the first n rows: its lowest n bits are 0, and its product with a vector is 0 wherever the products of
 -- these rows and of row r are.
-pub record Left (A : Matrix) (n r w : ℕ) : Type 0 where
+pub record Reduced (A : Matrix) (n r w : ℕ) : Type 0 where
   pub low : (c : ℕ) → c < n → digit 2 c w ≡ 0
   pub follows : (l : ℕ) (v : ℕ → ℕ) → l ≤ 32 → ((i : ℕ) → i < n → image 2 l A v i ≡ 0) → image 2 l A v r ≡ 0 → word-times l w v ≡ 0
 
 -- 32 words are the rows s, s + 1 and so on, reduced by the first n rows
-abbrev pub Lefts : Matrix → ℕ → ℕ → List ℕ → Type 0
-Lefts A n s words = (t : ℕ) → t < 32 → Left A n (s + t) (getD words t 0)
+abbrev pub ReducedRows : Matrix → ℕ → ℕ → List ℕ → Type 0
+ReducedRows A n s words = (t : ℕ) → t < 32 → Reduced A n (s + t) (getD words t 0)
 
 -- row k, reduced by the rows above it, has a one on the diagonal
 pub record Pivot (A : Matrix) (k : ℕ) : Type 0 where
   pub word : ℕ
-  pub left : Left A k k word
+  pub reduced : Reduced A k k word
   pub one : digit 2 k word ≡ 1
 
 -- each of the first m rows has: then the leading minors up to m are odd
@@ -44,7 +44,7 @@ Pivots A m = (k : ℕ) → k < m → Pivot A k
 
 -- where the words are rows a, a + 1 and so on of any matrix, reduced by its first a rows, and these have pivots, the first m rows have
 abbrev pub Reaches : List ℕ → ℕ → ℕ → Type 0
-Reaches words a m = (A : Matrix) → Lefts A a a words → Pivots A a → Pivots A m
+Reaches words a m = (A : Matrix) → ReducedRows A a a words → Pivots A a → Pivots A m
 
 -- s is a where the minors of a stopped at r below top, and else what it was, `at`
 abbrev pub FirstDoubt : (top at r a s : ℕ) → Type 0

@@ -4,8 +4,11 @@ use word::Columns;
 ghost use Prim.Native.Nat.{_<_};
 ghost use Rattle.minors.specs.Minors.{IsRow, AreRows};
 
+// The number of rows of a generator matrix: one for each bit of a column.
+pub(crate) const ROWS: usize = 32;
+
 // The rows of a matrix, row 0 first.
-pub(crate) type Rows = [u32; 32];
+pub(crate) type Rows = [u32; ROWS];
 
 // Row r of a matrix. The columns are taken from the last to the first, and each bit goes to the low end of the word.
 fn row(columns: Columns, r: u32) -> u32
@@ -25,9 +28,9 @@ fn row(columns: Columns, r: u32) -> u32
 pub(crate) fn rows(columns: Columns) -> Rows
     ensures { λ words. ⌜ AreRows columns words ⌝ }
 {
-    let mut words = [0u32; 32];
+    let mut words = [0u32; ROWS];
     let mut r: usize = 0;
-    while r < 32 {
+    while r < ROWS {
         words[r] = row(columns, r as u32);
         r += 1;
     }

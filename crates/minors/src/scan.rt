@@ -1,10 +1,14 @@
 // The scan over a: for each a the leading minors of its matrix, as far as they are odd.
+use crate::rows::ROWS;
 use crate::rows::Rows;
 use crate::rows::rows;
 use word::Columns;
 ghost use Prim.Native.Nat.{_≤_, _<_};
 ghost use Rattle.word.specs.Matrices.{pair};
 ghost use Rattle.minors.specs.Minors.{AllCleared, Reaches, FirstDoubt, Starts};
+
+// The largest size m of a shape: one for each row.
+const LARGEST_SIZE: u32 = 32;
 
 // A shape, by its size m and the number a of its rows of X.
 pub struct Start {
@@ -17,9 +21,9 @@ fn clear(words: Rows, by: u32, c: u32) -> Rows
     requires { ⌜ c < 32 ⌝ }
     ensures { λ r. ⌜ AllCleared by c words r ⌝ }
 {
-    let mut out = [0u32; 32];
+    let mut out = [0u32; ROWS];
     let mut t: usize = 0;
-    while t < 32 {
+    while t < ROWS {
         let word = words[t];
         out[t] = word ^ by * ((word >> c) % 2);
         t += 1;
@@ -32,15 +36,15 @@ fn minors_up_to(words: Rows, a: u32, top: u32) -> u32
     requires { ⌜ (a ≤ top) × (top ≤ 32) ⌝ }
     ensures { λ r. ⌜ (a ≤ r) × (r ≤ top) × Reaches words a r ⌝ }
 {
-    let mut left = words;
+    let mut reduced = words;
     let mut m = a;
     while m < top {
-        let by = left[(m - a) as usize];
+        let by = reduced[(m - a) as usize];
         if (by >> m) % 2 == 0 {
             return m;
         }
-        let next = clear(left, by, m);
-        left = next;
+        let next = clear(reduced, by, m);
+        reduced = next;
         m += 1;
     }
     m
@@ -87,7 +91,7 @@ fn scan(first: Columns, second: Columns, level: u32) -> Start
 pub fn certified_from(first: Columns, second: Columns, level: u32) -> Start
     ensures { λ r. ⌜ Starts (pair first second) level (r .m) (r .a) ⌝ }
 {
-    if level > 32 {
+    if level > LARGEST_SIZE {
         return Start { m: 1, a: 0 };
     }
     scan(first, second, level)

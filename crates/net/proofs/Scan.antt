@@ -9,7 +9,7 @@ use Rattle.net.specs.Generators.{Generators, Valid}
 use Rattle.net.specs.Sequence.{Least}
 use Rattle.net.specs.Scrambling.{plain}
 use Rattle.net.specs.Shape.{determinant}
-use Rattle.net.specs.Check.{passed, refused, check, NoneBefore}
+use Rattle.net.specs.Check.{passed, first-bad, check, NoneBefore}
 use Rattle.net.proofs.Least.{crowded-of-least, zero-of-crowded}
 use Rattle.net.proofs.Check.{checked}
 
@@ -43,8 +43,8 @@ module _ {G : Generators} (valid : Valid G) (prime : Prime (G .b)) (M : ℕ) (fi
   scan-all m a beyond none-before =
       checked valid prime M fits .passed-iff .1 (record { nonzero = λ n d p h l. none-before n d p l (inl (omega arith)) })
 
-  pub scan-stops : (m a j : ℕ) → 0 < m → m ≤ M → a ≤ m → NoneBefore G m a → Least (plain G) m a j → check G M ≡ refused m a j
+  pub scan-stops : (m a j : ℕ) → 0 < m → m ≤ M → a ≤ m → NoneBefore G m a → Least (plain G) m a j → check G M ≡ first-bad m a j
   scan-stops m a j p h l none-before least =
       let z = zero-of-crowded (record { valid = valid; wide = l; fits = omega arith }) prime (crowded-of-least (plain G) m a j least) in
-      checked valid prime M fits .refused-zero-iff m a j .1
+      checked valid prime M fits .first-bad-zero-iff m a j .1
       (record { positive = p; within = h; wide = l; zero = z; none-before = none-before }, least)

@@ -19,7 +19,7 @@ use Rattle.net.specs.Sequence.{Alone}
 use Rattle.net.specs.Scrambling.{plain}
 use Rattle.net.specs.Shape.{Shape, matrix, determinant}
 use Rattle.net.specs.Standard.{binomial, identity-column, pascal-column, standard}
-use Rattle.net.specs.Net.{StandardMatrices}
+use Rattle.net.specs.Net.{StandardLaws}
 use Rattle.net.proofs.Shape.{alone-iff, apart-of-alone}
 use Rattle.net.proofs.Net.{stratified}
 use Rattle.net.proofs.Standard.{alone}
@@ -66,8 +66,8 @@ nonzero {b} big R n long m a h l e =
     (λ r c hr hc. sym (entries big above divides R n long m a r c h hr hc))
     ∙ sym (det-divisor big above divides m (matrix (standard b R n) a)) ∙ ap (λ (x : ℕ). x % p) e ∙ zero-mod p)
 
-pub standard-matrices : {b : ℕ} → 1 < b → (R n : ℕ) → R ≤ n → StandardMatrices b R n
-standard-matrices {b} big R n long = record {
+pub standard-laws : {b : ℕ} → 1 < b → (R n : ℕ) → R ≤ n → StandardLaws b R n
+standard-laws {b} big R n long = record {
   identity = λ c h. column-at (identity-column b R) n c (omega arith) ∙ identity-low big R c h;
   identity-beyond = λ c h. beyond c h (lt-or-ge c n);
   pascal = Y-entry big R n;

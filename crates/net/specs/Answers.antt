@@ -8,24 +8,24 @@ use Rattle.net.specs.Generators.{Generators}
 use Rattle.net.specs.Sequence.{VisitIn, Finds, Crowded, Least}
 use Rattle.net.specs.Scrambling.{Scrambling, plain, digital, shifted}
 use Rattle.net.specs.Shape.{determinant, Passes}
-use Rattle.net.specs.Check.{check, passed, refused, FirstCrowded, FirstZero}
-use Rattle.net.specs.Query.{locate, found, no-net}
+use Rattle.net.specs.Check.{check, passed, first-bad, FirstCrowded, FirstZero}
+use Rattle.net.specs.Query.{locate, found, bad-shape}
 use Rattle.net.specs.Elimination.{BasisEntry, Eliminated, kernel, basis, basis-index}
 
--- The check passes exactly what passes, and refuses exactly where a determinant of a size within the level is 0, exactly where an
--- interval of such a size holds two plain visits. The shape that it names is the first in both readings, and j the least.
+-- The check passes exactly what passes, and names a bad shape exactly where a determinant of a size within the level is 0, exactly where
+-- an interval of such a size holds two plain visits. The shape that it names is the first in both readings, and j the least.
 pub record CheckDecides (G : Generators) (M : ℕ) : Type 0 where
   pub passed-iff : (check G M ≡ passed) ↔ Passes G M
   pub zero-iff : (check G M ≢ passed) ↔ ((m : ℕ) × (a : ℕ) × (0 < m) × (m ≤ M) × (a ≤ m) × (determinant G m a ≡ 0))
   pub crowded-iff : (check G M ≢ passed) ↔ ((m : ℕ) × (a : ℕ) × (m ≤ M) × (a ≤ m) × Crowded (plain G) m a)
-  pub refused-iff : (m a j : ℕ) → (check G M ≡ refused m a j) ↔ (FirstCrowded G M m a × Least (plain G) m a j)
-  pub refused-zero-iff : (m a j : ℕ) → (check G M ≡ refused m a j) ↔ (FirstZero G M m a × Least (plain G) m a j)
+  pub first-bad-iff : (m a j : ℕ) → (check G M ≡ first-bad m a j) ↔ (FirstCrowded G M m a × Least (plain G) m a j)
+  pub first-bad-zero-iff : (m a j : ℕ) → (check G M ≡ first-bad m a j) ↔ (FirstZero G M m a × Least (plain G) m a j)
 
--- what a query's outcome means: found i exactly where the determinant is not 0 and i is the only index of the block in the interval; no
--- net exactly where the determinant is 0, with the least j
-pub record Located (G : Generators) (F : Scrambling) (m a k c r : ℕ) : Type 0 where
+-- what a query's outcome means: found i exactly where the determinant is not 0 and i is the only index of the block in the interval; a
+-- bad shape exactly where the determinant is 0, with the least j
+pub record LocateDecides (G : Generators) (F : Scrambling) (m a k c r : ℕ) : Type 0 where
   pub found-iff : (i : ℕ) → (locate G F m a k c r ≡ found i) ↔ ((determinant G m a ≢ 0) × Only (VisitIn (digital G F) m a k c r) i)
-  pub no-net-iff : (j : ℕ) → (locate G F m a k c r ≡ no-net j) ↔ ((determinant G m a ≡ 0) × Least (plain G) m a j)
+  pub bad-shape-iff : (j : ℕ) → (locate G F m a k c r ≡ bad-shape j) ↔ ((determinant G m a ≡ 0) × Least (plain G) m a j)
 
 -- a basis that answers every query of the shape
 pub record Solved (G : Generators) (m a : ℕ) (fs : List BasisEntry) : Type 0 where
@@ -34,7 +34,7 @@ pub record Solved (G : Generators) (m a : ℕ) (fs : List BasisEntry) : Type 0 w
       → (k : ℕ) → Finds (shifted G s t) m a k (basis-index G (shifted G s t) fs m a k)
   pub answers-plain : (k : ℕ) → Finds (plain G) m a k (basis-index G (plain G) fs m a k)
 
--- the shape is no net, and j is 01's
+-- the shape is bad, and j is 01's
 pub record Unsolved (G : Generators) (m a j : ℕ) : Type 0 where
   pub zero : determinant G m a ≡ 0
   pub least : Least (plain G) m a j

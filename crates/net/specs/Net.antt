@@ -42,7 +42,7 @@ pub record Net (G : Generators) (M : ℕ) : Type 0 where
 
 -- Identity and Pascal's triangle modulo b, with n columns. The columns of the first are powers of b, and its product is the reversal of the
 -- index; the entries of the second are binomials. Each column follows from the one before. Both together pass every shape.
-pub record StandardMatrices (b R n : ℕ) : Type 0 where
+pub record StandardLaws (b R n : ℕ) : Type 0 where
   pub identity : (c : ℕ) → c < R → getD (standard b R n .X) c 0 ≡ b ^ (R - suc c)
   pub identity-beyond : (c : ℕ) → R ≤ c → getD (standard b R n .X) c 0 ≡ 0
   pub pascal : (r c : ℕ) → r < R → c < n → entry b R (standard b R n .Y) r c ≡ binomial c r % b

@@ -3,6 +3,7 @@ use crate::pairs::pair_answer;
 use crate::pairs::pair_plan;
 use answers::number_of;
 use plan::Shift;
+use word::Index;
 ghost use mathlib.Core.Path.{_≡_};
 ghost use Rattle.answers.specs.Answers.{answer-number};
 ghost use Rattle.pair_calls.specs.Calls.{pair-fill-outcome, pair-filled};
@@ -12,7 +13,7 @@ pub fn fill(
     words: &[u32],
     shift_x: u32,
     shift_y: u32,
-    start: u32,
+    start: Index,
     xs: &mut [u32],
     ys: &mut [u32],
 ) -> u32

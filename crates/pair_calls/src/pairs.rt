@@ -31,7 +31,7 @@ pub(crate) fn pair_plan(words: &[u32]) -> Plan
 }
 
 // Writes the columns of a matrix into as many words.
-fn put(columns: Columns, out: &mut [u32])
+fn write_columns(columns: Columns, out: &mut [u32])
     requires { ⌜ length (now out) ≡ index-bits ⌝ }
     ensures { λ _. ⌜ now (out .exit) ≡ columns ⌝ }
 {
@@ -50,7 +50,7 @@ pub fn write_standard(words: &mut [u32]) -> u32
     let plan = Plan::standard();
     let x = plan.x;
     let y = plan.y;
-    put(x, &mut words[..COLUMNS]);
-    put(y, &mut words[COLUMNS..]);
+    write_columns(x, &mut words[..COLUMNS]);
+    write_columns(y, &mut words[COLUMNS..]);
     0
 }

@@ -2,6 +2,7 @@
 use crate::pairs::pair_answer;
 use crate::pairs::pair_plan;
 use plan::Shift;
+use word::Index;
 ghost use mathlib.Core.Path.{_≡_};
 ghost use Rattle.answers.specs.Answers.{answer-number, part-left};
 ghost use Rattle.pair_calls.specs.Calls.{point-outcome, singles-outcome};
@@ -21,7 +22,7 @@ pub struct SinglesAnswer {
 }
 
 // The point of an index, or, where the words are no pair, the x and y that came in.
-pub fn point(words: &[u32], shift_x: u32, shift_y: u32, index: u32, x: u32, y: u32) -> PointAnswer
+pub fn point(words: &[u32], shift_x: u32, shift_y: u32, index: Index, x: u32, y: u32) -> PointAnswer
     ensures answer { λ r. ⌜ r .answer ≡ answer-number (point-outcome (now (words .entry)) «shift_x» «shift_y» index) ⌝ }
     ensures x { λ r. ⌜ r .x ≡ part-left (point-outcome (now (words .entry)) «shift_x» «shift_y» index) (λ p. p .0) x ⌝ }
     ensures y { λ r. ⌜ r .y ≡ part-left (point-outcome (now (words .entry)) «shift_x» «shift_y» index) (λ p. p .1) y ⌝ }
@@ -50,7 +51,7 @@ pub fn point_singles(
     words: &[u32],
     shift_x: u32,
     shift_y: u32,
-    index: u32,
+    index: Index,
     x: f32,
     y: f32,
 ) -> SinglesAnswer

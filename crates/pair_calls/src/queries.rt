@@ -3,7 +3,9 @@ use crate::pairs::pair_answer;
 use crate::pairs::pair_plan;
 use plan::Shift;
 use refusal::Refusal;
+use stratify::Block;
 use stratify::Located;
+use word::Index;
 ghost use mathlib.Core.Path.{_≡_};
 ghost use Rattle.answers.specs.Answers.{answer-number, part-left, value-left};
 ghost use Rattle.pair_calls.specs.Calls.{pair-query-outcome};
@@ -11,7 +13,7 @@ ghost use Rattle.pair_calls.specs.Calls.{pair-query-outcome};
 // The answer, and what the words lent for the index and for the least index of a bad shape hold then.
 pub struct QueryAnswer {
     pub answer: u32,
-    pub index: u32,
+    pub index: Index,
     pub j: u32,
 }
 
@@ -25,8 +27,8 @@ pub fn query(
     a: u32,
     column: u32,
     row: u32,
-    block: u32,
-    index: u32,
+    block: Block,
+    index: Index,
     j: u32,
 ) -> QueryAnswer
     ensures answer { λ r. ⌜

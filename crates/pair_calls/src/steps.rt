@@ -5,6 +5,7 @@ use plan::Shift;
 use plan::Step;
 use plan::Walk;
 use unit::SinglesStep;
+use word::Index;
 ghost use mathlib.Core.Path.{_≡_};
 ghost use Prim.Native.Nat.{ℕ};
 ghost use Rattle.answers.specs.Answers.{answer-number, step-words, left-in};
@@ -13,10 +14,10 @@ ghost use Rattle.pair_calls.specs.Calls.{step-outcome, two-singles, step
 // The answer, and what the words lent to a step hold then.
 pub struct StepAnswer {
     pub answer: u32,
-    pub next: u32,
+    pub next: Index,
     pub left: u64,
     pub given: u32,
-    pub index: u32,
+    pub index: Index,
     pub x: u32,
     pub y: u32,
 }
@@ -24,10 +25,10 @@ pub struct StepAnswer {
 // The same with the point as singles.
 pub struct SinglesStepAnswer {
     pub answer: u32,
-    pub next: u32,
+    pub next: Index,
     pub left: u64,
     pub given: u32,
-    pub index: u32,
+    pub index: Index,
     pub x: f32,
     pub y: f32,
 }
@@ -37,10 +38,10 @@ pub fn step(
     words: &[u32],
     shift_x: u32,
     shift_y: u32,
-    next: u32,
+    next: Index,
     left: u64,
     given: u32,
-    index: u32,
+    index: Index,
     x: u32,
     y: u32,
 ) -> StepAnswer
@@ -100,10 +101,10 @@ pub fn step_singles(
     words: &[u32],
     shift_x: u32,
     shift_y: u32,
-    next: u32,
+    next: Index,
     left: u64,
     given: u32,
-    index: u32,
+    index: Index,
     x: f32,
     y: f32,
 ) -> SinglesStepAnswer

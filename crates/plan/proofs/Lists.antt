@@ -7,7 +7,7 @@ use borrow.Author.Tests.{ltb-false, not-false, eqb-true}
 use lib.Dec.{eqb, ltb}
 use lib.ListN.{length}
 use Rattle.ranges.specs.Range.{range}
-use Rattle.ranges.specs.Walk.{Walk, answers, given, visits-given}
+use Rattle.ranges.specs.Walk.{Walk, answers, visits-then-end, visits-given}
 use Rattle.ranges.specs.Theorem.{Walked}
 use Rattle.ranges.proofs.Walk as ranges
 use Rattle.ranges.proofs.Walk.{visits-given-is, list-within}
@@ -53,7 +53,7 @@ module _ (n start count : ℕ) (w : Walk) (accepts : open-outcome n start count 
   within = ltb-false n (start + count) (passed .0)
 
 module _ (start count : ℕ) (w : Walk) (accepts : open-outcome index-count start count ≡ accepted w) (n : ℕ) where
-  pub steps : {A : Type 0} (visit-of : ℕ → A) → answers visit-of last-index n w ≡ given visit-of n start count
+  pub steps : {A : Type 0} (visit-of : ℕ → A) → answers visit-of last-index n w ≡ visits-then-end visit-of n start count
   steps visit-of =
       ap (answers visit-of last-index n) (opened index-count start count w accepts)
       ∙ list-within visit-of last-index start count n (within index-count start count w accepts)

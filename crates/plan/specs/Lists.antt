@@ -9,18 +9,18 @@ use Rattle.word.specs.Index.{last-index}
 use Rattle.plan.specs.Fill.{Buffers}
 
 -- an index with a point
-abbrev pub at : ℕ → ℕ × ℕ → Visit
-at i p = record { index = i; x = p .0; y = p .1 }
+abbrev pub visit-at : ℕ → ℕ × ℕ → Visit
+visit-at i p = record { index = i; x = p .0; y = p .1 }
 
 -- the point calls for n indexes from start on, in rising order
 abbrev pub pointed : Sequence → ℕ → ℕ → List Visit
-pointed S start n = map (λ i. at i (point S i)) (range start n)
+pointed S start n = map (λ i. visit-at i (point S i)) (range start n)
 
 -- what two buffers hold, read as the points of the indexes from start on
 unfoldable pub paired : ℕ → List ℕ → List ℕ → List Visit
 paired start [] ys = []
 paired start (x ∷ xs) [] = []
-paired start (x ∷ xs) (y ∷ ys) = at start (x, y) ∷ paired (suc start) xs ys
+paired start (x ∷ xs) (y ∷ ys) = visit-at start (x, y) ∷ paired (suc start) xs ys
 
 abbrev pub held : ℕ → Buffers → List Visit
 held start b = paired start (b .x) (b .y)

@@ -12,7 +12,7 @@ ghost use Rattle.refusal.specs.Refusal.{of-judgement};
 ghost use Rattle.plan.specs.Pair.{sequence, standard-pair, unknown-level, load-outcome, loaded, of-point};
 
 // The number of words of a pair: the columns of X, then those of Y.
-pub const PAIR_WORDS: usize = 64;
+pub const PAIR_WORDS: usize = 2 * COLUMNS;
 
 // Two generator matrices by their columns: column c belongs to index bit c, and row 0 is the top bit of a column.
 pub struct Plan {

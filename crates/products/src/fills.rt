@@ -11,7 +11,7 @@ ghost use Prim.Native.Nat.{_+_, _%_, _≤_, _<_};
 ghost use lib.ListN.{length};
 ghost use Rattle.ranges.specs.Range.{range};
 ghost use Rattle.word.specs.Index.{index-count};
-ghost use Rattle.products.specs.Products.{offset-product, group-size, products-filled};
+ghost use Rattle.products.specs.Products.{product-added, group-size, products-filled};
 
 // Fills a buffer with the products of a generator matrix with the indexes from start on, a word added to each. A buffer that would go past
 // the last index is left as it was.
@@ -27,7 +27,7 @@ pub fn fill(columns: Columns, added: u32, start: Index, out: &mut [u32])
 // Fills the three parts of a buffer.
 fn in_parts(columns: Columns, added: u32, start: Index, out: &mut [u32])
     requires { ⌜ start + length (now out) ≤ index-count ⌝ }
-    ensures { λ _. ⌜ now (out .exit) ≡ map (offset-product columns added) (range start (length (now (out .entry)))) ⌝ }
+    ensures { λ _. ⌜ now (out .exit) ≡ map (product-added columns added) (range start (length (now (out .entry)))) ⌝ }
 {
     let sums = word::prefixes(columns);
     let axis = Axis {

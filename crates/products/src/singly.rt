@@ -9,7 +9,7 @@ ghost use lib.ListN.{length};
 ghost use Rattle.ranges.specs.Range.{range};
 ghost use Rattle.word.specs.Index.{index-bits, index-count};
 ghost use Rattle.word.specs.Prefix.{prefixes};
-ghost use Rattle.products.specs.Products.{offset-product};
+ghost use Rattle.products.specs.Products.{product-added};
 
 // A generator matrix with the running sums of its columns, and the word that is added to each product.
 pub(crate) struct Axis {
@@ -19,8 +19,8 @@ pub(crate) struct Axis {
 }
 
 // The product with an index, and the word added.
-pub(crate) fn offset_product(axis: Axis, index: Index) -> u32
-    ensures { λ r. ⌜ r ≡ offset-product (axis .columns) (axis .added) index ⌝ }
+pub(crate) fn product_added(axis: Axis, index: Index) -> u32
+    ensures { λ r. ⌜ r ≡ product-added (axis .columns) (axis .added) index ⌝ }
 {
     let columns = axis.columns;
     word::product(columns, index) ^ axis.added
@@ -37,9 +37,9 @@ pub(crate) fn turned(at: Index) -> usize
 // Writes the products from start on, one by one.
 pub(crate) fn singly(axis: Axis, start: Index, out: &mut [u32])
     requires { ⌜ (axis .sums ≡ prefixes 2 index-bits (axis .columns)) × (start + length (now out) ≤ index-count) ⌝ }
-    ensures { λ _. ⌜ now (out .exit) ≡ map (offset-product (axis .columns) (axis .added)) (range start (length (now (out .entry)))) ⌝ }
+    ensures { λ _. ⌜ now (out .exit) ≡ map (product-added (axis .columns) (axis .added)) (range start (length (now (out .entry)))) ⌝ }
 {
-    let mut word = offset_product(axis, start);
+    let mut word = product_added(axis, start);
     let mut k = 0;
     while k < out.len() {
         out[k] = word;

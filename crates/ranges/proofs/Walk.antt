@@ -8,7 +8,7 @@ use native.Mathlib.Omega.{arith}
 use borrow.Author.Tests.{lt-ltb, le-ltb, eq-eqb, ne-eqb}
 use lib.ListN.{replicate}
 use Rattle.ranges.specs.Range.{range}
-use Rattle.ranges.specs.Walk.{Walk, Answer, visited, ended, Stepped, step, answers, after, given, visits-given}
+use Rattle.ranges.specs.Walk.{Walk, Answer, visited, ended, Stepped, step, answers, after, visits-then-end, visits-given}
 use Rattle.ranges.specs.Theorem.{Walked, WalkedByHand}
 use Rattle.ranges.proofs.Order.{lt-or-ge}
 
@@ -21,21 +21,21 @@ nonzero l e = omega arith
 module _ {A : Type 0} (visit-of : ℕ → A) where
   -- ---- the list of n answers, one answer at a time
 
-  given-no-step : (s c : ℕ) → given visit-of 0 s c ≡ []
+  given-no-step : (s c : ℕ) → visits-then-end visit-of 0 s c ≡ []
   unfolding range
   given-no-step s c =
       let none : min 0 c ≡ 0 = omega arith in
       let no-end : 0 - c ≡ 0 = omega arith in
       ap₂ (λ (v e : ℕ). map (λ i. visited (visit-of i)) (range s v) ++ replicate e ended) none no-end
 
-  given-end : (n s : ℕ) → given visit-of n s 0 ≡ replicate n ended
+  given-end : (n s : ℕ) → visits-then-end visit-of n s 0 ≡ replicate n ended
   unfolding range
   given-end n s =
       let none : min n 0 ≡ 0 = omega arith in
       let all : n - 0 ≡ n = omega arith in
       ap₂ (λ (v e : ℕ). map (λ i. visited (visit-of i)) (range s v) ++ replicate e ended) none all
 
-  given-visit : (n s c : ℕ) → given visit-of (suc n) s (suc c) ≡ visited (visit-of s) ∷ given visit-of n (suc s) c
+  given-visit : (n s c : ℕ) → visits-then-end visit-of (suc n) s (suc c) ≡ visited (visit-of s) ∷ visits-then-end visit-of n (suc s) c
   unfolding range
   given-visit n s c =
       let more : min (suc n) (suc c) ≡ suc (min n c) = omega arith in
@@ -81,28 +81,28 @@ module _ {A : Type 0} (visit-of : ℕ → A) where
     next-answer n w v w′ l e rest =
         ap (λ (s : Stepped A). s .answer ∷ answers visit-of last n (s .walk)) e ∙ ap (λ (k : List (Answer A)). visited v ∷ k) rest
 
-    list : (n s l c : ℕ) → c ≡ min l (suc last - s) → answers visit-of last n (at s l) ≡ given visit-of n s c
+    list : (n s l c : ℕ) → c ≡ min l (suc last - s) → answers visit-of last n (at s l) ≡ visits-then-end visit-of n s c
     unfolding answers
     list zero s l c e = sym (given-no-step s c)
     list (suc n) s zero c e =
         let z : c ≡ 0 = omega arith in
-        all-ended (at s 0) (step-none s) (suc n) ∙ sym (given-end (suc n) s) ∙ ap (given visit-of (suc n) s) (sym z)
+        all-ended (at s 0) (step-none s) (suc n) ∙ sym (given-end (suc n) s) ∙ ap (visits-then-end visit-of (suc n) s) (sym z)
     list (suc n) s (suc l) zero e =
         all-ended (at s (suc l)) (step-past s (suc l) (omega arith)) (suc n) ∙ sym (given-end (suc n) s)
     list (suc n) s (suc l) (suc c) e = go (lt-or-ge s last) (λ q. list n (suc s) l c q) (λ q. list n s 0 0 q)
       where
-        go : (s < last) ⊎ (last ≤ s) → (c ≡ min l (suc last - suc s) → answers visit-of last n (at (suc s) l) ≡ given visit-of n (suc s) c)
-            → (0 ≡ min 0 (suc last - s) → answers visit-of last n (at s 0) ≡ given visit-of n s 0)
-            → answers visit-of last (suc n) (at s (suc l)) ≡ given visit-of (suc n) s (suc c)
+        go : (s < last) ⊎ (last ≤ s) → (c ≡ min l (suc last - suc s) → answers visit-of last n (at (suc s) l) ≡ visits-then-end visit-of n (suc s) c)
+            → (0 ≡ min 0 (suc last - s) → answers visit-of last n (at s 0) ≡ visits-then-end visit-of n s 0)
+            → answers visit-of last (suc n) (at s (suc l)) ≡ visits-then-end visit-of (suc n) s (suc c)
         go (inl h) ih done =
-            next-answer n (at s (suc l)) (visit-of s) (at (suc s) l) (given visit-of n (suc s) c) (step-more s l h) (ih (omega arith))
+            next-answer n (at s (suc l)) (visit-of s) (at (suc s) l) (visits-then-end visit-of n (suc s) c) (step-more s l h) (ih (omega arith))
             ∙ sym (given-visit n s c)
         go (inr h) ih done =
             let here : s ≡ last = omega arith in
             let z : c ≡ 0 = omega arith in
-            next-answer n (at s (suc l)) (visit-of s) (at s 0) (given visit-of n s 0) (step-last s l here) (done (omega arith))
+            next-answer n (at s (suc l)) (visit-of s) (at s 0) (visits-then-end visit-of n s 0) (step-last s l here) (done (omega arith))
             ∙ ap (λ (k : List (Answer A)). visited (visit-of s) ∷ k) (given-end n s ∙ sym (given-end n (suc s)))
-            ∙ sym (given-visit n s 0) ∙ ap (λ (k : ℕ). given visit-of (suc n) s (suc k)) (sym z)
+            ∙ sym (given-visit n s 0) ∙ ap (λ (k : ℕ). visits-then-end visit-of (suc n) s (suc k)) (sym z)
 
     pub walked-by-hand : (w : Walk) (n : ℕ) → WalkedByHand visit-of last w n
     walked-by-hand w n = record { list = list n (w .next) (w .left) (min (w .left) (suc last - w .next)) refl }
@@ -136,7 +136,8 @@ module _ {A : Type 0} (visit-of : ℕ → A) where
             ap (λ (t : Stepped A). after visit-of last n (t .walk)) (step-last s l here) ∙ done ∙ ap₂ at p q
 
     -- where start and count go past no index
-    pub list-within : (start count n : ℕ) → start + count ≤ suc last → answers visit-of last n (at start count) ≡ given visit-of n start count
+    pub list-within : (start count n : ℕ) → start + count ≤ suc last
+        → answers visit-of last n (at start count) ≡ visits-then-end visit-of n start count
     list-within start count n f = list n start count count (omega arith)
 
     pub walked : (start count n : ℕ) → start ≤ last → start + count ≤ suc last → Walked visit-of last start count n
@@ -157,7 +158,7 @@ module _ {A : Type 0} (visit-of : ℕ → A) where
   visits-given-ended zero = refl
   visits-given-ended (suc k) = visits-given-ended k
 
-  pub visits-given-is : (n start count : ℕ) → visits-given (given visit-of n start count) ≡ map visit-of (range start (min n count))
+  pub visits-given-is : (n start count : ℕ) → visits-given (visits-then-end visit-of n start count) ≡ map visit-of (range start (min n count))
   visits-given-is n start count =
       visits-given-append (range start (min n count)) (replicate (n - count) ended)
       ∙ ap (λ (t : List A). map visit-of (range start (min n count)) ++ t) (visits-given-ended (n - count))

@@ -2,7 +2,7 @@
 -- `Theorems`, the whole list with the assumption of each, of which proofs/Theorem gives one term.
 use mathlib.Core.Path.{_≡_}
 use Prim.Native.Nat.{ℕ, suc, _+_, _-_, _≤_, _<_, min}
-use Rattle.ranges.specs.Walk.{Walk, answers, after, given}
+use Rattle.ranges.specs.Walk.{Walk, answers, after, visits-then-end}
 
 -- a function from the numbers below N to themselves that takes no value twice takes each
 pub record Pigeonhole (N : ℕ) : Type 0 where
@@ -12,13 +12,13 @@ pub record Pigeonhole (N : ℕ) : Type 0 where
 -- ONE claim about the list of n steps on a walk opened at `start` with `count`, steps after the end included: the visits of the
 -- indexes from the start on, as many as the smaller of n and count, and then the end. And what the last walk holds.
 pub record Walked {A : Type 0} (visit-of : ℕ → A) (last start count n : ℕ) : Type 0 where
-  pub list : answers visit-of last n (record { next = start; left = count }) ≡ given visit-of n start count
+  pub list : answers visit-of last n (record { next = start; left = count }) ≡ visits-then-end visit-of n start count
   pub next : after visit-of last n (record { next = start; left = count }) .next ≡ min (start + min n count) last
   pub left : after visit-of last n (record { next = start; left = count }) .left ≡ count - n
 
 -- the list for a walk made by hand: it gives no visit past the last index
 pub record WalkedByHand {A : Type 0} (visit-of : ℕ → A) (last : ℕ) (w : Walk) (n : ℕ) : Type 0 where
-  pub list : answers visit-of last n w ≡ given visit-of n (w .next) (min (w .left) (suc last - w .next))
+  pub list : answers visit-of last n w ≡ visits-then-end visit-of n (w .next) (min (w .left) (suc last - w .next))
 
 pub record Theorems : Type 1 where
   pub pigeonhole : (N : ℕ) → Pigeonhole N

@@ -47,8 +47,8 @@ after visit-of last zero w = w
 after visit-of last (suc n) w = after visit-of last n (step visit-of last w .walk)
 
 -- the visits of c indexes from s on, as far as n steps go, and then the end
-abbrev pub given : {A : Type 0} → (ℕ → A) → ℕ → ℕ → ℕ → List (Answer A)
-given visit-of n s c = map (λ i. visited (visit-of i)) (range s (min n c)) ++ replicate (n - c) ended
+abbrev pub visits-then-end : {A : Type 0} → (ℕ → A) → ℕ → ℕ → ℕ → List (Answer A)
+visits-then-end visit-of n s c = map (λ i. visited (visit-of i)) (range s (min n c)) ++ replicate (n - c) ended
 
 -- the visits that a list of answers gives
 unfoldable pub visits-given : {A : Type 0} → List (Answer A) → List A

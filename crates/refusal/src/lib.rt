@@ -27,7 +27,7 @@ pub enum Refusal {
     // 11: the file is empty, too long, or not whole records.
     FileLength,
     // 12: bytes of record 0 that must be zero are not.
-    Header,
+    ReservedBytes,
     // 13: the chain names a record that the file lacks.
     MissingRecord,
     // 14: the chain returns to a record.
@@ -53,7 +53,7 @@ impl Refusal {
             Refusal::IndexRange => 9,
             Refusal::Region => 10,
             Refusal::FileLength => 11,
-            Refusal::Header => 12,
+            Refusal::ReservedBytes => 12,
             Refusal::MissingRecord => 13,
             Refusal::ChainReturns => 14,
             Refusal::VisitCount => 15,

@@ -15,8 +15,8 @@ use Rattle.refusal.proofs.First.{accepted-refused, AllPass, all-pass, refused-b
 use Rattle.stage.specs.Region.{within}
 use Rattle.stage.proofs.Limits.{both}
 use Rattle.region_file.specs.declared.fields.Record.{Record}
-use Rattle.region_file.specs.Fields.{record-bytes, most-bytes, record-at, first-record, records, most-records}
-use Rattle.region_file.specs.Judge.{whole, head-tests, most-visits, link-tests, link-outcome, nowhere, also, chain, judge-outcome}
+use Rattle.region_file.specs.Fields.{record-bytes, most-bytes, record-at, first-record, record-count, most-records}
+use Rattle.region_file.specs.Judge.{whole, head-tests, most-visits, link-tests, link-outcome, nowhere, also, chain-outcome, judge-outcome}
 
 -- what a record has that passes its own tests
 pub record Sound (further : Record → List Test) (r : Record) : Type 0 where
@@ -26,7 +26,7 @@ pub record Sound (further : Record → List Test) (r : Record) : Type 0 where
 
 -- what a link has that passes its tests
 pub record Passed (further : Record → List Test) (file : List ℕ) (seen : Bool) (n : ℕ) : Type 0 where
-  pub here : n < records file
+  pub here : n < record-count file
   pub fresh : seen ≡ false
   pub sound : Sound further (record-at file n)
 
@@ -35,49 +35,49 @@ module _ {A : Type 0} {after : Outcome A} {b : A} (further : Record → List Tes
   passed e =
       let r = record-at file n in
       let p = all-pass after (link-tests further file seen n) e in
-      let here : leb (records file) n ≡ false = search p in
+      let here : leb (record-count file) n ≡ false = search p in
       let inside : not (within (r .region)) ≡ false = search p in
       let few : ltb most-visits (r .count) ≡ false = search p in
       let sound : Sound further r = record { inside = not-false _ inside; few = ltb-false most-visits (r .count) few; others = search p } in
-      (record { here = leb-false (records file) n here; fresh = search p; sound = sound }, p .1)
+      (record { here = leb-false (record-count file) n here; fresh = search p; sound = sound }, p .1)
 
 module _ (further : Record → List Test) (file : List ℕ) where
-  pub chain-end : (links : ℕ) → 0 < links → (v : ℕ → Bool) (n : ℕ) → n ≡ 0 → chain further file links v n ≡ accepted tt
-  unfolding chain
+  pub chain-end : (links : ℕ) → 0 < links → (v : ℕ → Bool) (n : ℕ) → n ≡ 0 → chain-outcome further file links v n ≡ accepted tt
+  unfolding chain-outcome
   chain-end zero p v n e = absurd (lt-irrefl 0 p)
   chain-end (suc links) p v n e = simp (eq-eqb n 0 e)
 
   -- with no link left no chain is accepted
-  pub chain-some : (v : ℕ → Bool) (n : ℕ) → chain further file zero v n ≡ accepted tt → ⊥
-  unfolding chain
+  pub chain-some : (v : ℕ → Bool) (n : ℕ) → chain-outcome further file zero v n ≡ accepted tt → ⊥
+  unfolding chain-outcome
   chain-some v n e = accepted-refused (sym e)
 
   module _ (v : ℕ → Bool) (n : ℕ) (ne : n ≡ 0 → ⊥) where
     pub chain-refused : (links : ℕ) → 0 < links → {k : ℕ} {vs : List ℕ} → link-outcome further file (v n) n ≡ refused k vs
-        → chain further file links v n ≡ refused k vs
-    unfolding chain
+        → chain-outcome further file links v n ≡ refused k vs
+    unfolding chain-outcome
     chain-refused zero p e = absurd (lt-irrefl 0 p)
     chain-refused (suc links) p e = simp (ne-eqb n 0 ne)
-        (refused-before tt (chain further file links (also n v) (record-at file n .next)) (link-tests further file (v n) n) e)
+        (refused-before tt (chain-outcome further file links (also n v) (record-at file n .next)) (link-tests further file (v n) n) e)
 
     pub chain-next : (links : ℕ) → link-outcome further file (v n) n ≡ accepted tt
-        → chain further file (suc links) v n ≡ chain further file links (also n v) (record-at file n .next)
-    unfolding chain
+        → chain-outcome further file (suc links) v n ≡ chain-outcome further file links (also n v) (record-at file n .next)
+    unfolding chain-outcome
     chain-next links e = simp (ne-eqb n 0 ne)
-        (passed-before tt (chain further file links (also n v) (record-at file n .next)) (link-tests further file (v n) n) e)
+        (passed-before tt (chain-outcome further file links (also n v) (record-at file n .next)) (link-tests further file (v n) n) e)
 
   -- an accepted chain has ended, or its link passes and the rest is accepted
   pub record Linked (links : ℕ) (v : ℕ → Bool) (n : ℕ) : Type 0 where
     pub some : n ≡ 0 → ⊥
     pub link : Passed further file (v n) n
-    pub rest : chain further file links (also n v) (record-at file n .next) ≡ accepted tt
+    pub rest : chain-outcome further file links (also n v) (record-at file n .next) ≡ accepted tt
 
-  pub linked : (links : ℕ) (v : ℕ → Bool) (n : ℕ) → chain further file (suc links) v n ≡ accepted tt → (n ≡ 0) ⊎ Linked links v n
-  unfolding chain
+  pub linked : (links : ℕ) (v : ℕ → Bool) (n : ℕ) → chain-outcome further file (suc links) v n ≡ accepted tt → (n ≡ 0) ⊎ Linked links v n
+  unfolding chain-outcome
   linked links v n h = go (eqb n 0) refl h
     where
       go : (z : Bool) → eqb n 0 ≡ z
-          → cond z (accepted tt) (first (link-tests further file (v n) n) (chain further file links (also n v) (record-at file n .next)))
+          → cond z (accepted tt) (first (link-tests further file (v n) n) (chain-outcome further file links (also n v) (record-at file n .next)))
           ≡ accepted tt
           → (n ≡ 0) ⊎ Linked links v n
       go true e h = inl (eqb-true n 0 e)
@@ -102,6 +102,6 @@ whole-few bytes e = let m = whole-has bytes e .most in omega (arith, m)
 
 -- the chain of an accepted file is accepted
 pub judged-chain : (further : Record → List Test) (file : List ℕ) → judge-outcome further file ≡ accepted tt
-    → chain further file most-records nowhere (first-record file) ≡ accepted tt
+    → chain-outcome further file most-records nowhere (first-record file) ≡ accepted tt
 unfolding judge-outcome
-judged-chain further file e = all-pass (chain further file most-records nowhere (first-record file)) (head-tests file) e .1
+judged-chain further file e = all-pass (chain-outcome further file most-records nowhere (first-record file)) (head-tests file) e .1

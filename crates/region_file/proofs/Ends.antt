@@ -12,23 +12,24 @@ use lib.Seq.{getD-set-other}
 use Rattle.refusal.specs.Outcome.{Outcome, accepted, refused, Test, first}
 use Rattle.refusal.proofs.First.{refused-before, passed-before}
 use Rattle.region_file.specs.declared.fields.Record.{Record}
-use Rattle.region_file.specs.Fields.{record-at, records, most-records}
-use Rattle.region_file.specs.Judge.{also, link-tests, chain}
+use Rattle.region_file.specs.Fields.{record-at, record-count, most-records}
+use Rattle.region_file.specs.Judge.{also, link-tests, chain-outcome}
 use Rattle.region_file.specs.Theorem.{ChainsEnd}
 use Rattle.region_file.proofs.Chain.{Passed, passed, whole-few}
 use Rattle.region_file.proofs.Marks.{marked, free, free-fresh, fresh-at, marked-fresh, free-set, free-some, marked-set, unmarked}
 
-module _ (further : Record → List Test) (file : List ℕ) (few : records file ≤ most-records) where
+module _ (further : Record → List Test) (file : List ℕ) (few : record-count file ≤ most-records) where
   -- one link of each, where the rest is the same
   step : (f g : ℕ) (v : ℕ → Bool) (n : ℕ)
-      → ((n ≡ 0 → ⊥) → Passed further file (v n) n → chain further file f (also n v) (record-at file n .next) ≡ chain further file g (also n v)
+      → ((n ≡ 0 → ⊥) → Passed further file (v n) n → chain-outcome further file f (also n v) (record-at file n .next)
+      ≡ chain-outcome further file g (also n v)
       (record-at file n .next))
-      → chain further file (suc f) v n ≡ chain further file (suc g) v n
-  unfolding chain
+      → chain-outcome further file (suc f) v n ≡ chain-outcome further file (suc g) v n
+  unfolding chain-outcome
   step f g v n same = go (eqb n 0) refl
     where
       one : ℕ → Outcome Unit
-      one links = chain further file links (also n v) (record-at file n .next)
+      one links = chain-outcome further file links (also n v) (record-at file n .next)
 
       tests : List Test
       tests = link-tests further file (v n) n
@@ -43,7 +44,7 @@ module _ (further : Record → List Test) (file : List ℕ) (few : records file 
       go false e = judged (first tests (accepted tt)) refl (eqb-false n 0 e)
 
   same : (f g : ℕ) (ms : List ℕ) (n : ℕ) → length ms ≡ most-records → getD ms 0 0 ≡ 0 → free ms ≤ f → free ms ≤ g
-      → chain further file f (marked ms) n ≡ chain further file g (marked ms) n
+      → chain-outcome further file f (marked ms) n ≡ chain-outcome further file g (marked ms) n
   same zero g ms n l z hf hg = absurd (omega (arith, free-some ms l z))
   same (suc f) zero ms n l z hf hg = absurd (omega (arith, free-some ms l z))
   same (suc f) (suc g) ms n l z hf hg =
@@ -52,15 +53,15 @@ module _ (further : Record → List Test) (file : List ℕ) (few : records file 
       let k : n < length ms = omega (arith, here) in
       let o : free ms ≡ suc (free (set ms n 1)) = free-set ms n k (unmarked ms n (p .fresh)) in
       let next : ℕ = record-at file n .next in
-      ap (λ (v : ℕ → Bool). chain further file f v next) (sym (marked-set ms n k))
+      ap (λ (v : ℕ → Bool). chain-outcome further file f v next) (sym (marked-set ms n k))
       ∙ same f g (set ms n 1) next (length-set ms n 1 ∙ l) (getD-set-other ms n 0 1 0 (λ q. ne (sym q)) ∙ z) (omega arith) (omega arith)
-      ∙ ap (λ (v : ℕ → Bool). chain further file g v next) (marked-set ms n k))
+      ∙ ap (λ (v : ℕ → Bool). chain-outcome further file g v next) (marked-set ms n k))
 
 pub chains-end : ChainsEnd
 chains-end further file links n w h =
     let ms : List ℕ = replicate most-records 0 in
     let e : free ms ≡ most-records = free-fresh most-records in
-    ap (λ (v : ℕ → Bool). chain further file links v n) (sym (marked-fresh most-records))
+    ap (λ (v : ℕ → Bool). chain-outcome further file links v n) (sym (marked-fresh most-records))
     ∙ same further file (whole-few (length file) w) links most-records ms n (length-replicate {A = ℕ} most-records 0) (fresh-at most-records 0)
     (omega arith) (omega arith)
-    ∙ ap (λ (v : ℕ → Bool). chain further file most-records v n) (marked-fresh most-records)
+    ∙ ap (λ (v : ℕ → Bool). chain-outcome further file most-records v n) (marked-fresh most-records)

@@ -7,7 +7,7 @@ use lib.ListN.{replicate, take}
 use Rattle.refusal.specs.Outcome.{Outcome, accepted, refused, first}
 use Rattle.stage.specs.Region.{within}
 use Rattle.region_file.specs.Fields.{word-at, record-at, zeros}
-use Rattle.region_file.specs.Judge.{whole, chain, judge-outcome, no-further-tests}
+use Rattle.region_file.specs.Judge.{whole, chain-outcome, judge-outcome, no-further-tests}
 
 -- words as bytes, the lowest first
 unfoldable bytes : List ℕ → List ℕ
@@ -42,7 +42,7 @@ record Judged : Type 0 where
   region-before-count : judged (file-of 1 2 (one 0 0 4097)) ≡ refused 10 []
 
 examples : Judged
-unfolding bytes file-of one judge-outcome first whole zeros chain record-at word-at within
+unfolding bytes file-of one judge-outcome first whole zeros chain-outcome record-at word-at within
 examples = record {
   example = refl;
   no-records = refl;

@@ -13,7 +13,7 @@ use Rattle.refusal.proofs.First.{first-none, first-passes, AllPass, all-pass}
 use Rattle.region_file.specs.declared.fields.Record.{Record}
 use Rattle.region_file.specs.Fields.{record-at, first-record, most-records}
 use Rattle.region_file.specs.Chain.{numbers, member}
-use Rattle.region_file.specs.Judge.{head-tests, no-further-tests, further-outcome, link-outcome, nowhere, also, chain, judge-outcome}
+use Rattle.region_file.specs.Judge.{head-tests, no-further-tests, further-outcome, link-outcome, nowhere, also, chain-outcome, judge-outcome}
 use Rattle.region_file.specs.Theorem.{FurtherTests}
 use Rattle.region_file.proofs.Chain.{Passed, Linked, linked, chain-end, chain-some, chain-next, judged-chain}
 use Rattle.region_file.proofs.Numbers.{member-first, member-later, member-sound}
@@ -36,7 +36,8 @@ module _ (further : Record → List Test) (file : List ℕ) where
   abbrev Accepts : ℕ → Type 0
   Accepts k = further-outcome further (record-at file k) ≡ accepted tt
 
-  without : (links : ℕ) (v : ℕ → Bool) (n : ℕ) → chain further file links v n ≡ accepted tt → chain no-further-tests file links v n ≡ accepted tt
+  without : (links : ℕ) (v : ℕ → Bool) (n : ℕ) → chain-outcome further file links v n ≡ accepted tt
+      → chain-outcome no-further-tests file links v n ≡ accepted tt
   without zero v n h = absurd (chain-some further file v n h)
   without (suc links) v n h = go (linked further file links v n h) (without links)
     where
@@ -44,15 +45,16 @@ module _ (further : Record → List Test) (file : List ℕ) where
       some = omega arith
 
       go : (n ≡ 0) ⊎ Linked further file links v n
-          → ((v : ℕ → Bool) (n : ℕ) → chain further file links v n ≡ accepted tt → chain no-further-tests file links v n ≡ accepted tt)
-          → chain no-further-tests file (suc links) v n ≡ accepted tt
+          → ((v : ℕ → Bool) (n : ℕ) → chain-outcome further file links v n ≡ accepted tt
+          → chain-outcome no-further-tests file links v n ≡ accepted tt)
+          → chain-outcome no-further-tests file (suc links) v n ≡ accepted tt
       go (inl e) more = chain-end no-further-tests file (suc links) some v n e
       go (inr l) more =
           chain-next no-further-tests file v n (l .some) links (only-further further no-further-tests file (v n) n (l .link) ∙ first-none _)
           ∙ more (also n v) (record-at file n .next) (l .rest)
 
-  with-them : (links : ℕ) (v : ℕ → Bool) (n : ℕ) → chain no-further-tests file links v n ≡ accepted tt
-      → ((k : ℕ) → member k (numbers file links n) ≡ true → Accepts k) → chain further file links v n ≡ accepted tt
+  with-them : (links : ℕ) (v : ℕ → Bool) (n : ℕ) → chain-outcome no-further-tests file links v n ≡ accepted tt
+      → ((k : ℕ) → member k (numbers file links n) ≡ true → Accepts k) → chain-outcome further file links v n ≡ accepted tt
   with-them zero v n h each = absurd (chain-some no-further-tests file v n h)
   with-them (suc links) v n h each = go (linked no-further-tests file links v n h) (with-them links)
     where
@@ -60,9 +62,9 @@ module _ (further : Record → List Test) (file : List ℕ) where
       some = omega arith
 
       go : (n ≡ 0) ⊎ Linked no-further-tests file links v n
-          → ((v : ℕ → Bool) (n : ℕ) → chain no-further-tests file links v n ≡ accepted tt
-          → ((k : ℕ) → member k (numbers file links n) ≡ true → Accepts k) → chain further file links v n ≡ accepted tt)
-          → chain further file (suc links) v n ≡ accepted tt
+          → ((v : ℕ → Bool) (n : ℕ) → chain-outcome no-further-tests file links v n ≡ accepted tt
+          → ((k : ℕ) → member k (numbers file links n) ≡ true → Accepts k) → chain-outcome further file links v n ≡ accepted tt)
+          → chain-outcome further file (suc links) v n ≡ accepted tt
       go (inl e) more = chain-end further file (suc links) some v n e
       go (inr l) more =
           let own = each n (member-first file n links n (l .some) refl) in
@@ -74,15 +76,15 @@ unfolding judge-outcome
 further-tests further file = (
   λ e.
       let h = judged-chain further file e in
-      let heads = all-pass (chain further file most-records nowhere (first-record file)) (head-tests file) e .0 in (
-        pass-all (chain no-further-tests file most-records nowhere (first-record file)) (head-tests file) heads
+      let heads = all-pass (chain-outcome further file most-records nowhere (first-record file)) (head-tests file) e .0 in (
+        pass-all (chain-outcome no-further-tests file most-records nowhere (first-record file)) (head-tests file) heads
             ∙ without further file most-records nowhere (first-record file) h,
         λ k m. pass-all (accepted tt) (further (record-at file k))
             (member-sound further file k most-records nowhere (first-record file) h m .others),
       ),
   λ p.
       let h = judged-chain no-further-tests file (p .0) in
-      let heads = all-pass (chain no-further-tests file most-records nowhere (first-record file)) (head-tests file) (p .0) .0 in
-      pass-all (chain further file most-records nowhere (first-record file)) (head-tests file) heads
+      let heads = all-pass (chain-outcome no-further-tests file most-records nowhere (first-record file)) (head-tests file) (p .0) .0 in
+      pass-all (chain-outcome further file most-records nowhere (first-record file)) (head-tests file) heads
       ∙ with-them further file most-records nowhere (first-record file) h (p .1),
 )

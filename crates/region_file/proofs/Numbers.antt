@@ -15,7 +15,7 @@ use Rattle.refusal.specs.Outcome.{accepted, Test}
 use Rattle.region_file.specs.declared.fields.Record.{Record}
 use Rattle.region_file.specs.Fields.{record-at, first-record, most-records}
 use Rattle.region_file.specs.Chain.{numbers, member}
-use Rattle.region_file.specs.Judge.{nowhere, also, chain}
+use Rattle.region_file.specs.Judge.{nowhere, also, chain-outcome}
 use Rattle.region_file.specs.Theorem.{WholeChain}
 use Rattle.region_file.proofs.Chain.{Sound, Linked, linked, chain-some, judged-chain}
 
@@ -70,13 +70,13 @@ module _ (file : List ℕ) (k : ℕ) where
 
 module _ (further : Record → List Test) (file : List ℕ) (k : ℕ) where
   -- none of its numbers is that of a record which an earlier link named
-  pub member-visited : (links : ℕ) (v : ℕ → Bool) (n : ℕ) → chain further file links v n ≡ accepted tt → v k ≡ true
+  pub member-visited : (links : ℕ) (v : ℕ → Bool) (n : ℕ) → chain-outcome further file links v n ≡ accepted tt → v k ≡ true
       → member k (numbers file links n) ≡ false
   member-visited zero v n h seen = absurd (chain-some further file v n h)
   member-visited (suc links) v n h seen = go (linked further file links v n h) (member-visited links)
     where
       go : (n ≡ 0) ⊎ Linked further file links v n
-          → ((v : ℕ → Bool) (n : ℕ) → chain further file links v n ≡ accepted tt → v k ≡ true → member k (numbers file links n) ≡ false)
+          → ((v : ℕ → Bool) (n : ℕ) → chain-outcome further file links v n ≡ accepted tt → v k ≡ true → member k (numbers file links n) ≡ false)
           → member k (numbers file (suc links) n) ≡ false
       go (inl e) more = member-end file k (suc links) n e
       go (inr l) more =
@@ -85,13 +85,13 @@ module _ (further : Record → List Test) (file : List ℕ) (k : ℕ) where
           member-rest file k links n (l .some) other ∙ more (also n v) (record-at file n .next) (l .rest) still
 
   -- each of its numbers names a record that passes
-  pub member-sound : (links : ℕ) (v : ℕ → Bool) (n : ℕ) → chain further file links v n ≡ accepted tt
+  pub member-sound : (links : ℕ) (v : ℕ → Bool) (n : ℕ) → chain-outcome further file links v n ≡ accepted tt
       → member k (numbers file links n) ≡ true → Sound further (record-at file k)
   member-sound zero v n h m = absurd (chain-some further file v n h)
   member-sound (suc links) v n h m = go (linked further file links v n h) (eq-or-ne n k) (member-sound links)
     where
       go : (n ≡ 0) ⊎ Linked further file links v n → (n ≡ k) ⊎ (n ≢ k)
-          → ((v : ℕ → Bool) (n : ℕ) → chain further file links v n ≡ accepted tt → member k (numbers file links n) ≡ true
+          → ((v : ℕ → Bool) (n : ℕ) → chain-outcome further file links v n ≡ accepted tt → member k (numbers file links n) ≡ true
           → Sound further (record-at file k))
           → Sound further (record-at file k)
       go (inl e) is more = absurd (true≢false (sym m ∙ member-end file k (suc links) n e))
@@ -101,7 +101,7 @@ module _ (further : Record → List Test) (file : List ℕ) (k : ℕ) where
 
 -- looking at more links finds no more records
 numbers-enough : (further : Record → List Test) (file : List ℕ) (links more : ℕ) (v : ℕ → Bool) (n : ℕ)
-    → chain further file links v n ≡ accepted tt → numbers file (links + more) n ≡ numbers file links n
+    → chain-outcome further file links v n ≡ accepted tt → numbers file (links + more) n ≡ numbers file links n
 unfolding numbers
 numbers-enough further file zero more v n h = absurd (chain-some further file v n h)
 numbers-enough further file (suc links) more v n h =
@@ -109,7 +109,7 @@ numbers-enough further file (suc links) more v n h =
     ap (λ (k : ℕ). numbers file k n) e ∙ go (linked further file links v n h) (λ v n h. numbers-enough further file links more v n h)
   where
     go : (n ≡ 0) ⊎ Linked further file links v n
-        → ((v : ℕ → Bool) (n : ℕ) → chain further file links v n ≡ accepted tt → numbers file (links + more) n ≡ numbers file links n)
+        → ((v : ℕ → Bool) (n : ℕ) → chain-outcome further file links v n ≡ accepted tt → numbers file (links + more) n ≡ numbers file links n)
         → numbers file (suc (links + more)) n ≡ numbers file (suc links) n
     go (inl e) rest = simp (eq-eqb n 0 e)
     go (inr l) rest = simp (ne-eqb n 0 (l .some), rest _ _ (l .rest))

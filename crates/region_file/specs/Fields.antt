@@ -59,8 +59,8 @@ abbrev pub reserved-zero : List ℕ → Bool
 reserved-zero file = zeros file reserved-start reserved-bytes
 
 -- the number of whole records that the bytes hold, record 0 included
-abbrev pub records : List ℕ → ℕ
-records file = length file / record-bytes
+abbrev pub record-count : List ℕ → ℕ
+record-count file = length file / record-bytes
 
 -- the bytes of the longest file
 abbrev pub most-bytes : ℕ

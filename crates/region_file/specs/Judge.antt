@@ -8,7 +8,7 @@ use Rattle.refusal.specs.Outcome.{Outcome, accepted, refused, Test, first}
 use Rattle.plan.specs.Pair.{unknown-level}
 use Rattle.stage.specs.Region.{outside}
 use Rattle.region_file.specs.declared.fields.Record.{Record}
-use Rattle.region_file.specs.Fields.{record-bytes, record-at, first-record, file-level, reserved-zero, records, most-bytes, most-records}
+use Rattle.region_file.specs.Fields.{record-bytes, record-at, first-record, file-level, reserved-zero, record-count, most-bytes, most-records}
 
 -- not empty, not longer than the longest file, and whole records
 unfoldable pub whole : ℕ → Bool
@@ -28,7 +28,7 @@ head-tests file = not-whole file ∷ unknown-level (file-level file) ∷ reserve
 
 -- 13: the file has no record n
 abbrev pub missing : List ℕ → ℕ → Test
-missing file n = record { number = 13; holds = leb (records file) n }
+missing file n = record { number = 13; holds = leb (record-count file) n }
 
 -- 14: an earlier link named the record
 abbrev pub returning : Bool → Test
@@ -75,11 +75,12 @@ also n visited k = eqb k n || visited k
 
 -- the judgement of the links from the number n on, after links that named the records `visited`. Number 0 ends the chain. A chain that has
 -- not ended after `links` links is refused under 14; from most-records on the number of links never matters (`ChainsEnd`).
-unfoldable pub chain : (Record → List Test) → List ℕ → ℕ → (ℕ → Bool) → ℕ → Outcome Unit
-chain further file zero visited n = refused 14 []
-chain further file (suc links) visited n =
-    cond (eqb n 0) (accepted tt) (first (link-tests further file (visited n) n) (chain further file links (also n visited) (record-at file n .next)))
+unfoldable pub chain-outcome : (Record → List Test) → List ℕ → ℕ → (ℕ → Bool) → ℕ → Outcome Unit
+chain-outcome further file zero visited n = refused 14 []
+chain-outcome further file (suc links) visited n =
+    cond (eqb n 0) (accepted tt)
+    (first (link-tests further file (visited n) n) (chain-outcome further file links (also n visited) (record-at file n .next)))
 
 -- the judgement of the whole file
 unfoldable pub judge-outcome : (Record → List Test) → List ℕ → Outcome Unit
-judge-outcome further file = first (head-tests file) (chain further file most-records nowhere (first-record file))
+judge-outcome further file = first (head-tests file) (chain-outcome further file most-records nowhere (first-record file))

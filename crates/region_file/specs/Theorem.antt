@@ -10,12 +10,12 @@ use Rattle.refusal.specs.Outcome.{accepted, Test}
 use Rattle.region_file.specs.declared.fields.Record.{Record}
 use Rattle.region_file.specs.Fields.{record-at, first-record, file-level, reserved-zero, most-records}
 use Rattle.region_file.specs.Chain.{numbers, chain-numbers, on-chain}
-use Rattle.region_file.specs.Judge.{whole, no-further-tests, further-outcome, nowhere, chain, judge-outcome}
+use Rattle.region_file.specs.Judge.{whole, no-further-tests, further-outcome, nowhere, chain-outcome, judge-outcome}
 
 -- a chain of a whole file is judged the same, however many links from most-records on the judgement looks at
 abbrev pub ChainsEnd : Type 0
 ChainsEnd = (further : Record → List Test) (file : List ℕ) (links n : ℕ) → whole (length file) ≡ true → most-records ≤ links
-    → chain further file links nowhere n ≡ chain further file most-records nowhere n
+    → chain-outcome further file links nowhere n ≡ chain-outcome further file most-records nowhere n
 
 -- the numbers of an accepted file are its whole chain: looking at more links finds no more
 abbrev pub WholeChain : Type 0

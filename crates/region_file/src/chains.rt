@@ -12,9 +12,9 @@ ghost use Prim.Native.Nat.{_≤_};
 ghost use lib.Dec.{eqb};
 ghost use lib.ListN.{getD};
 ghost use Rattle.refusal.specs.Refusal.{of-judgement};
-ghost use Rattle.region_file.specs.Fields.{first-record, records, most-records};
+ghost use Rattle.region_file.specs.Fields.{first-record, record-count, most-records};
 ghost use Rattle.region_file.specs.Chain.{on-chain};
-ghost use Rattle.region_file.specs.Judge.{no-further-tests, record-outcome, link-outcome, chain, nowhere};
+ghost use Rattle.region_file.specs.Judge.{no-further-tests, record-outcome, link-outcome, chain-outcome, nowhere};
 
 // The largest count of visits that a record may have.
 const MOST_VISITS: u32 = 4096;
@@ -59,8 +59,8 @@ fn is_marked(marks: &[u8], at: usize) -> bool
 // The tests of all links, one link after the other, with a mark for each record that a link has named. The loop ends since each link
 // that passes sets a mark that was not set.
 pub(crate) fn judge_chain(file: &[u8]) -> Judgement
-    requires { ⌜ records (now file) ≤ most-records ⌝ }
-    ensures { λ r. ⌜ of-judgement r ≡ chain no-further-tests (now (file .entry)) most-records nowhere (first-record (now (file .entry))) ⌝ }
+    requires { ⌜ record-count (now file) ≤ most-records ⌝ }
+    ensures { λ r. ⌜ of-judgement r ≡ chain-outcome no-further-tests (now (file .entry)) most-records nowhere (first-record (now (file .entry))) ⌝ }
 {
     let mut marks = [0u8; MOST_RECORDS as usize];
     let mut n = first_record(file);

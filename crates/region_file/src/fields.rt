@@ -5,7 +5,7 @@ use stage::Region;
 ghost use mathlib.Core.Path.{_≡_};
 ghost use Prim.Native.Nat.{_<_};
 ghost use lib.ListN.{getD};
-ghost use Rattle.region_file.specs.Fields.{field, record-at, first-record, records};
+ghost use Rattle.region_file.specs.Fields.{field, record-at, first-record, record-count};
 
 // The bytes of a record.
 pub(crate) const RECORD_BYTES: usize = 32;
@@ -90,7 +90,7 @@ pub fn first_record(file: &[u8]) -> u32
 
 // The number of whole records that the bytes hold, record 0 included.
 pub fn record_count(file: &[u8]) -> usize
-    ensures { λ r. ⌜ r ≡ records (now (file .entry)) ⌝ }
+    ensures { λ r. ⌜ r ≡ record-count (now (file .entry)) ⌝ }
 {
     file.len() / RECORD_BYTES
 }

@@ -63,7 +63,7 @@ pub fn judge(file: &[u8]) -> Judgement
         return Judgement::Refused(Refusal::Level);
     }
     if !zeros(file, RESERVED_START, RESERVED_BYTES) {
-        return Judgement::Refused(Refusal::Header);
+        return Judgement::Refused(Refusal::ReservedBytes);
     }
     judge_chain(file)
 }

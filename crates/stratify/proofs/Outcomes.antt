@@ -6,8 +6,8 @@ use mathlib.Core.List.{List, []}
 use Prim.Native.Nat.{ℕ, _-_, _^_}
 use borrow.Author.Tests.{eq-eqb, le-ltb, lt-leb}
 use lib.ListN.{length}
-use Rattle.net.specs.Check.{Verdict, passed, refused, check}
-use Rattle.net.specs.Query.{Location, found, no-net, locate}
+use Rattle.net.specs.Check.{Verdict, passed, first-bad, check}
+use Rattle.net.specs.Query.{Location, found, bad-shape, locate}
 use Rattle.refusal.specs.Outcome.{Outcome, accepted, not-net}
 use Rattle.refusal.proofs.First.{first-none, first-passes, accepted-refused}
 use Rattle.plan.specs.declared.pair.Plan.{Plan}
@@ -42,26 +42,26 @@ check-outcome-is words level long known =
 
 accepted-passed : (v : Verdict) → of-verdict v ≡ accepted tt → v ≡ passed
 accepted-passed passed e = refl
-accepted-passed (refused m a j) e = absurd (accepted-refused (sym e))
+accepted-passed (first-bad m a j) e = absurd (accepted-refused (sym e))
 
-not-net-refused : (v : Verdict) (m a j : ℕ) → of-verdict v ≡ not-net m a j → v ≡ refused m a j
-not-net-refused passed m a j e = absurd (accepted-refused e)
-not-net-refused (refused n d i) m a j e = cc
+not-net-first-bad : (v : Verdict) (m a j : ℕ) → of-verdict v ≡ not-net m a j → v ≡ first-bad m a j
+not-net-first-bad passed m a j e = absurd (accepted-refused e)
+not-net-first-bad (first-bad n d i) m a j e = cc
 
 accepted-found : (m a : ℕ) (l : Location) (i : ℕ) → of-location m a l ≡ accepted i → l ≡ found i
 accepted-found m a (found n) i e = cc
-accepted-found m a (no-net j) i e = absurd (accepted-refused (sym e))
+accepted-found m a (bad-shape j) i e = absurd (accepted-refused (sym e))
 
-not-net-no-net : (m a : ℕ) (l : Location) (j : ℕ) → of-location m a l ≡ not-net m a j → l ≡ no-net j
-not-net-no-net m a (found n) j e = absurd (accepted-refused e)
-not-net-no-net m a (no-net i) j e = cc
+not-net-bad-shape : (m a : ℕ) (l : Location) (j : ℕ) → of-location m a l ≡ not-net m a j → l ≡ bad-shape j
+not-net-bad-shape m a (found n) j e = absurd (accepted-refused e)
+not-net-bad-shape m a (bad-shape i) j e = cc
 
 module _ {o : Outcome Unit} {v : Verdict} (is : o ≡ of-verdict v) where
   pub verdict-accepted : (o ≡ accepted tt) ↔ (v ≡ passed)
   verdict-accepted = (λ e. accepted-passed v (sym is ∙ e), λ e. is ∙ ap of-verdict e)
 
-  pub verdict-not-net : (m a j : ℕ) → (o ≡ not-net m a j) ↔ (v ≡ refused m a j)
-  verdict-not-net m a j = (λ e. not-net-refused v m a j (sym is ∙ e), λ e. is ∙ ap of-verdict e)
+  pub verdict-not-net : (m a j : ℕ) → (o ≡ not-net m a j) ↔ (v ≡ first-bad m a j)
+  verdict-not-net m a j = (λ e. not-net-first-bad v m a j (sym is ∙ e), λ e. is ∙ ap of-verdict e)
 
   -- 3 with some shape and j, where the verdict is not passed
   pub verdict-refuses : ((m : ℕ) × (a : ℕ) × (j : ℕ) × (o ≡ not-net m a j)) ↔ (v ≢ passed)
@@ -69,11 +69,11 @@ module _ {o : Outcome Unit} {v : Verdict} (is : o ≡ of-verdict v) where
     where
       named : (u : Verdict) → v ≡ u → v ≢ passed → (m : ℕ) × (a : ℕ) × (j : ℕ) × (o ≡ not-net m a j)
       named passed e ne = absurd (ne e)
-      named (refused m a j) e ne = (m, a, j, is ∙ ap of-verdict e)
+      named (first-bad m a j) e ne = (m, a, j, is ∙ ap of-verdict e)
 
 module _ {o : Outcome ℕ} (m a : ℕ) {l : Location} (is : o ≡ of-location m a l) where
   pub location-accepted : (i : ℕ) → (o ≡ accepted i) ↔ (l ≡ found i)
   location-accepted i = (λ e. accepted-found m a l i (sym is ∙ e), λ e. is ∙ ap (of-location m a) e)
 
-  pub location-not-net : (j : ℕ) → (o ≡ not-net m a j) ↔ (l ≡ no-net j)
-  location-not-net j = (λ e. not-net-no-net m a l j (sym is ∙ e), λ e. is ∙ ap (of-location m a) e)
+  pub location-not-net : (j : ℕ) → (o ≡ not-net m a j) ↔ (l ≡ bad-shape j)
+  location-not-net j = (λ e. not-net-bad-shape m a l j (sym is ∙ e), λ e. is ∙ ap (of-location m a) e)

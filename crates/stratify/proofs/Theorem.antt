@@ -24,7 +24,7 @@ use Rattle.net.specs.Shape.{Shape, Passes}
 use Rattle.net.specs.Check.{check}
 use Rattle.net.specs.Query.{locate}
 use Rattle.net.specs.Net.{Net}
-use Rattle.net.specs.Answers.{Located, CheckDecides}
+use Rattle.net.specs.Answers.{LocateDecides, CheckDecides}
 use Rattle.net.specs.Run.{Visit, visit, visits, run, hits}
 use Rattle.net.specs.Standard.{standard}
 use Rattle.net.proofs.Scrambling.{shift-lawful}
@@ -121,7 +121,7 @@ module _ {P : Plan} (valid : Valid (generators P)) {s : Shift} (words : ShiftFit
   shape : Shape (generators P) m a
   shape = let size = cell .size in let top = known .known in record { valid = valid; wide = cell .wide; fits = omega arith }
 
-  L : Located (generators P) (scrambling s) m a k c r
+  L : LocateDecides (generators P) (scrambling s) m a k c r
   L = net.theorems .located shape two (lawful s words) k c r (cell .column) (cell .row)
 
   is : query-outcome P s level m a k c r ≡ of-location m a (locate (generators P) (scrambling s) m a k c r)
@@ -137,12 +137,12 @@ module _ {P : Plan} (valid : Valid (generators P)) {s : Shift} (words : ShiftFit
     );
     answer-iff = λ i. (λ e. L .found-iff i .0 (location-accepted m a is i .0 e), λ h. location-accepted m a is i .1 (L .found-iff i .1 h));
     refuses-iff = (
-      λ (j, e). L .no-net-iff j .0 (location-not-net m a is j .0 e) .0,
+      λ (j, e). L .bad-shape-iff j .0 (location-not-net m a is j .0 e) .0,
       λ even.
           let least = least-index-least shape two even in
-          (_, location-not-net m a is _ .1 (L .no-net-iff _ .1 (even, least))),
+          (_, location-not-net m a is _ .1 (L .bad-shape-iff _ .1 (even, least))),
     );
-    refusal-iff = λ j. (λ e. L .no-net-iff j .0 (location-not-net m a is j .0 e), λ h. location-not-net m a is j .1 (L .no-net-iff j .1 h));
+    refusal-iff = λ j. (λ e. L .bad-shape-iff j .0 (location-not-net m a is j .0 e), λ h. location-not-net m a is j .1 (L .bad-shape-iff j .1 h));
   }
 
 size-zero : {P : Plan} → Valid (generators P) → {s : Shift} → ShiftFits s → {level : ℕ} → Level level → {k : ℕ} → k < 2 ^ 32
@@ -165,9 +165,9 @@ checked words below long {level} known = record {
   even-iff = (λ r. C .zero-iff .0 (verdict-refuses is .0 r), λ h. verdict-refuses is .1 (C .zero-iff .1 h));
   crowded-iff = (λ r. C .crowded-iff .0 (verdict-refuses is .0 r), λ h. verdict-refuses is .1 (C .crowded-iff .1 h));
   refusal-iff = λ m a j.
-      (λ e. C .refused-iff m a j .0 (verdict-not-net is m a j .0 e), λ h. verdict-not-net is m a j .1 (C .refused-iff m a j .1 h));
+      (λ e. C .first-bad-iff m a j .0 (verdict-not-net is m a j .0 e), λ h. verdict-not-net is m a j .1 (C .first-bad-iff m a j .1 h));
   refusal-even-iff = λ m a j.
-      (λ e. C .refused-zero-iff m a j .0 (verdict-not-net is m a j .0 e), λ h. verdict-not-net is m a j .1 (C .refused-zero-iff m a j .1 h));
+      (λ e. C .first-bad-zero-iff m a j .0 (verdict-not-net is m a j .0 e), λ h. verdict-not-net is m a j .1 (C .first-bad-zero-iff m a j .1 h));
 }
   where
     C : CheckDecides (generators (loaded words)) level
@@ -226,7 +226,7 @@ accepted-related words below M e = let a = accepts words below M e in related (a
 
 standard-pair-theorem : StandardPair
 standard-pair-theorem =
-    let T = net.theorems .standard-matrices one-lt-two 32 32 (omega arith) in
+    let T = net.theorems .standard-laws one-lt-two 32 32 (omega arith) in
     record {
       x = λ c h. let e : 32 - suc c ≡ 31 - c = omega arith in T .identity c h ∙ ap (λ (n : ℕ). 2 ^ n) e;
       y = λ r c h l. T .pascal r c h l;

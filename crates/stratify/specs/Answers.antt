@@ -3,8 +3,8 @@ use mathlib.Core.Bool.{_||_}
 use mathlib.Core.List.{List, [], _∷_}
 use Prim.Native.Nat.{ℕ, _-_, _^_, _≤_, _<_}
 use lib.Dec.{leb, ltb}
-use Rattle.net.specs.Check.{Verdict, passed, refused, check}
-use Rattle.net.specs.Query.{Location, found, no-net, locate}
+use Rattle.net.specs.Check.{Verdict, passed, first-bad, check}
+use Rattle.net.specs.Query.{Location, found, bad-shape, locate}
 use Rattle.refusal.specs.Outcome.{Outcome, accepted, not-net, Test, first}
 use Rattle.refusal.specs.Refusal.{of-refusal}
 use Rattle.word.specs.Index.{index-bits}
@@ -19,7 +19,7 @@ use Rattle.stratify.specs.declared.queries.Located.the-variants as locat
 -- passed, or 3 with the first bad shape and its j
 abbrev pub of-verdict : Verdict → Outcome Unit
 of-verdict passed = accepted tt
-of-verdict (refused m a j) = not-net m a j
+of-verdict (first-bad m a j) = not-net m a j
 
 -- what the check comes to: refused under 1, 2 or 3, in this order
 abbrev pub check-outcome : List ℕ → ℕ → Outcome Unit
@@ -51,7 +51,7 @@ query-tests level m a k c r =
 -- found, or 3 with the shape that was asked for and its j
 abbrev pub of-location : ℕ → ℕ → Location → Outcome ℕ
 of-location m a (found i) = accepted i
-of-location m a (no-net j) = not-net m a j
+of-location m a (bad-shape j) = not-net m a j
 
 -- what the query comes to: refused under 2, 4, 5, 6, 7 or 3, in this order
 abbrev pub query-outcome : Plan → Shift → (level m a k c r : ℕ) → Outcome ℕ

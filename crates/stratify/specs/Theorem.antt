@@ -9,7 +9,7 @@ use lib.Bits.{bitXor}
 use lib.ListN.{length, getD, take, drop}
 use Rattle.ranges.specs.Unique.{Only, One}
 use Rattle.ranges.specs.Below.{Below}
-use Rattle.ranges.specs.Walk.{Walk, answers, given}
+use Rattle.ranges.specs.Walk.{Walk, answers, visits-then-end}
 use Rattle.ranges.specs.Theorem.{Walked, WalkedByHand}
 use Rattle.net.specs.Generators.{Valid, entry}
 use Rattle.net.specs.Sequence.{column, row, VisitIn, Crowded, Least}
@@ -96,7 +96,7 @@ pub record Lists (P : Plan) (s : Shift) : Type 0 where
       → held start (filled index-count (sequence P s) start xs ys) ≡ visits (sequence P s) start (length xs)
   pub opened : (start count : ℕ) (w : Walk) → open-outcome index-count start count ≡ accepted w → w ≡ record { next = start; left = count }
   pub steps : (start count : ℕ) (w : Walk) → open-outcome index-count start count ≡ accepted w
-      → (n : ℕ) → answers (visit (sequence P s)) last-index n w ≡ given (visit (sequence P s)) n start count
+      → (n : ℕ) → answers (visit (sequence P s)) last-index n w ≡ visits-then-end (visit (sequence P s)) n start count
   pub walks : (start count : ℕ) (w : Walk) → open-outcome index-count start count ≡ accepted w
       → (n : ℕ) → visits-walked (sequence P s) n w ≡ visits (sequence P s) start (min n count)
   pub last-walk : (start count : ℕ) (w : Walk) → open-outcome index-count start count ≡ accepted w → start ≤ last-index

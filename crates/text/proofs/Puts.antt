@@ -45,7 +45,7 @@ put-put d at s t h =
     ∙ ap (λ (l : List ℕ). l ++ drop (n + length t) d) (append-assoc (take at d) s t)
     ∙ ap₂ (λ (l : List ℕ) (k : ℕ). take at d ++ l ++ drop k d) (sym (whole (s ++ t))) e
 
--- a writer of s ended at offset r, past the text, and left the buffer e, which has the text
+-- a writer of s ended at byte r, past the text, and left the buffer e, which has the text
 abbrev pub Writes : List ℕ → ℕ → List ℕ → ℕ → List ℕ → Type 0
 Writes d at s r e = (r ≡ at + length s) × (e ≡ put d at s)
 

@@ -6,7 +6,7 @@ use lib.Dec.{leb}
 use lib.ListN.{length}
 use lib.Seq.{paste}
 
--- the buffer d with the text s from offset `at` on
+-- the buffer d with the text s from byte `at` on
 abbrev pub put : List ℕ → ℕ → List ℕ → List ℕ
 put d at s = paste d at s (length s)
 
@@ -14,6 +14,6 @@ put d at s = paste d at s (length s)
 abbrev pub written : ℕ → List ℕ → ℕ → List ℕ → List ℕ
 written w d at s = cond (leb (at + w) (length d)) (put d at s) d
 
--- the offset that the writer hands back: past the text, or else the one that it got
+-- what the writer hands back: where the text ends, or `at` where it has written nothing
 abbrev pub end : ℕ → List ℕ → ℕ → List ℕ → ℕ
 end w d at s = cond (leb (at + w) (length d)) (at + length s) at

@@ -15,7 +15,7 @@ pub const LONGEST_NUMBER: usize = 11;
 // A sign, ten digits and the byte after them.
 pub const LONGEST_SIGNED: usize = 12;
 
-// Whether n bytes are left from offset `at` on. The sum of both might not fit its type, so they are subtracted from the length.
+// Whether n bytes are left from byte `at` on. The sum of both might not fit its type, so they are subtracted from the length.
 fn has_room(n: usize, length: usize, at: usize) -> bool
     ensures { λ r. ⌜ r ≡ leb (at + n) length ⌝ }
 {

@@ -1,5 +1,5 @@
-// Text in a lent buffer: numbers in decimal, and bytes as they are. A writer takes the offset to write at and hands back the offset past
-// its text. Where fewer bytes are left than its longest text has, it writes nothing and hands back the offset that it got.
+// Text in a lent buffer: numbers in decimal, and bytes as they are. A writer begins at byte `at` and hands back where its text ends. Where
+// fewer bytes are left than its longest text has, it writes nothing and hands `at` back.
 mod fields;
 mod groups;
 mod numerals;

@@ -145,7 +145,7 @@ single-largest {L} wide {v} below =
     let d-value = double-value (wide .at-most) below in
     let less : kept L v * 2 ^ L ≤ v * 2 ^ L = mul-le-mul-right (2 ^ L) (div-mul-le-self v (2 ^ cut L v)) in
     record {
-      held = ofBits-fits binary32 (lower-bits L v);
+      in-format = ofBits-fits binary32 (lower-bits L v);
       not-above = le-of-values x d (kept L v) (2 ^ L) v (2 ^ L) (pow-pos L) (pow-pos L) x-value d-value less;
       none-between = λ u f t. none-between L v below u x d x-value d-value f t;
     }

@@ -8,7 +8,7 @@ use lib.Count.{leadingZeros}
 use lib.IntN.{pos}
 use lib.Ieee.{Float, nan, inf, fin, Format, binary32, up, down, fits, le, toBits}
 use lib.Ieee.Exact.{HasValue}
-use Rattle.ranges.specs.Walk.{Walk, answers, given}
+use Rattle.ranges.specs.Walk.{Walk, answers, visits-then-end}
 use Rattle.net.specs.Sequence.{Sequence, top}
 use Rattle.refusal.specs.Outcome.{accepted}
 use Rattle.word.specs.Index.{index-count, last-index}
@@ -25,7 +25,7 @@ pub record WideEnough (L : ℕ) : Type 0 where
 -- x is the largest value of the format that is not above y: among all values of the format, negative ones, -0 and the infinities too (`le` is
 -- false where one side is no number)
 pub record Largest (f : Format) (x y : Float) : Type 0 where
-  pub held : T (fits f x)
+  pub in-format : T (fits f x)
   pub not-above : T (le x y)
   pub none-between : (u : Float) → T (fits f u) → T (le u y) → T (le u x)
 
@@ -62,10 +62,10 @@ pub record Theorems : Type 0 where
   pub shortfall : (w : ℕ) → w < 2 ^ 32 → Shortfall width (numerator w) (single w)
   pub strip : (w : ℕ) → w < 2 ^ 32 → (n : ℕ) → n ≤ 24 → InStrip n (top 2 32 n w) (single w)
   pub bits : (w : ℕ) → w < 2 ^ 32 → toBits binary32 (single w) ≡ single-bits w
-  pub field : (w : ℕ) → w < 2 ^ 32 → 0 < numerator w → single-bits w / 2 ^ 23 ≡ 126 - leadingZeros width (numerator w)
+  pub exponent-field : (w : ℕ) → w < 2 ^ 32 → 0 < numerator w → single-bits w / 2 ^ 23 ≡ 126 - leadingZeros width (numerator w)
   -- of the word 0: +0.0
   pub zero-bits : toBits binary32 (single 0) ≡ 0
   pub zero : single 0 ≡ fin false 0 (pos 0)
   -- ONE claim about the list of n steps with singles on a walk opened without refusal, steps after the end included
   pub steps : (S : Sequence) (start count : ℕ) (w : Walk) → open-outcome index-count start count ≡ accepted w
-      → (n : ℕ) → answers (visit-singles S) last-index n w ≡ given (visit-singles S) n start count
+      → (n : ℕ) → answers (visit-singles S) last-index n w ≡ visits-then-end (visit-singles S) n start count

@@ -1,4 +1,5 @@
 // Fills of two lent buffers.
+use word::Index;
 ghost use mathlib.Core.Path.{_≡_};
 ghost use Rattle.answers.specs.Answers.{answer-number};
 ghost use Rattle.pair_calls.specs.Calls.{pair-fill-outcome, pair-filled};
@@ -9,7 +10,7 @@ pub extern "C" fn vektrid_fill(
     words: &[u32],
     shift_x: u32,
     shift_y: u32,
-    start: u32,
+    start: Index,
     xs: &mut [u32],
     ys: &mut [u32],
 ) -> u32

@@ -1,6 +1,7 @@
 // Points by their indexes.
 use plan::Plan;
 use plan::Shift;
+use word::Index;
 ghost use mathlib.Core.Path.{_≡_};
 ghost use Rattle.net.specs.Sequence.{point};
 ghost use Rattle.plan.specs.Pair.{sequence, standard-pair};
@@ -13,7 +14,7 @@ pub extern "C" fn vektrid_point(
     words: &[u32],
     shift_x: u32,
     shift_y: u32,
-    index: u32,
+    index: Index,
     x: &mut u32,
     y: &mut u32,
 ) -> u32
@@ -32,7 +33,7 @@ pub extern "C" fn vektrid_point(
 pub extern "C" fn vektrid_standard_point(
     shift_x: u32,
     shift_y: u32,
-    index: u32,
+    index: Index,
     x: &mut u32,
     y: &mut u32,
 )

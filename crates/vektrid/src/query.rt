@@ -1,4 +1,6 @@
 // The query of a cell.
+use stratify::Block;
+use word::Index;
 ghost use mathlib.Core.Path.{_≡_};
 ghost use Rattle.answers.specs.Answers.{answer-number, part-left, value-left};
 ghost use Rattle.pair_calls.specs.Calls.{pair-query-outcome};
@@ -14,8 +16,8 @@ pub extern "C" fn vektrid_query(
     a: u32,
     column: u32,
     row: u32,
-    block: u32,
-    index: &mut u32,
+    block: Block,
+    index: &mut Index,
     j: &mut u32,
 ) -> u32
     ensures answer { λ r. ⌜ r ≡ answer-number (pair-query-outcome (now (words .entry)) «shift_x» «shift_y» level m a column row block) ⌝ }

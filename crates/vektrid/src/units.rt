@@ -1,4 +1,5 @@
 // Unit numbers: of a word, and as singles those of a point and of a step.
+use word::Index;
 ghost use mathlib.Core.Path.{_≡_};
 ghost use Rattle.unit.specs.Word.{double, single};
 ghost use Rattle.answers.specs.Answers.{answer-number, part-left, step-words, left-in};
@@ -26,7 +27,7 @@ pub extern "C" fn vektrid_point_singles(
     words: &[u32],
     shift_x: u32,
     shift_y: u32,
-    index: u32,
+    index: Index,
     x: &mut f32,
     y: &mut f32,
 ) -> u32
@@ -46,10 +47,10 @@ pub extern "C" fn vektrid_walk_step_singles(
     words: &[u32],
     shift_x: u32,
     shift_y: u32,
-    next: &mut u32,
+    next: &mut Index,
     left: &mut u64,
     given: &mut u32,
-    index: &mut u32,
+    index: &mut Index,
     x: &mut f32,
     y: &mut f32,
 ) -> u32

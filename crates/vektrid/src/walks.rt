@@ -1,6 +1,7 @@
 // Walks over a pair's visits: the caller keeps the next index and the number of visits left.
 use plan::Opened;
 use plan::Walk;
+use word::Index;
 ghost use mathlib.Core.Path.{_≡_};
 ghost use Prim.Native.Nat.{ℕ};
 ghost use Rattle.word.specs.Index.{index-count};
@@ -10,7 +11,12 @@ ghost use Rattle.pair_calls.specs.Calls.{step-outcome};
 
 // A walk over count visits from start on.
 #[no_mangle]
-pub extern "C" fn vektrid_walk_open(start: u32, count: u64, next: &mut u32, left: &mut u64) -> u32
+pub extern "C" fn vektrid_walk_open(
+    start: Index,
+    count: u64,
+    next: &mut Index,
+    left: &mut u64,
+) -> u32
     ensures answer { λ r. ⌜ r ≡ answer-number (open-outcome index-count start count) ⌝ }
     ensures next { λ _. ⌜ now (next .exit) ≡ part-left (open-outcome index-count start count) (λ w. w .next) (now (next .entry)) ⌝ }
     ensures left { λ _. ⌜ now (left .exit) ≡ part-left (open-outcome index-count start count) (λ w. w .left) (now (left .entry)) ⌝ }
@@ -32,10 +38,10 @@ pub extern "C" fn vektrid_walk_step(
     words: &[u32],
     shift_x: u32,
     shift_y: u32,
-    next: &mut u32,
+    next: &mut Index,
     left: &mut u64,
     given: &mut u32,
-    index: &mut u32,
+    index: &mut Index,
     x: &mut u32,
     y: &mut u32,
 ) -> u32

@@ -16,9 +16,9 @@ use Rattle.refusal.proofs.First.{first-none, first-passes, first-accepted, acce
 use Rattle.stage.specs.declared.regions.Position.{Position}
 use Rattle.stage.specs.Region.{within}
 use Rattle.region_file.specs.declared.fields.Record.{Record}
-use Rattle.region_file.specs.Fields.{records}
+use Rattle.region_file.specs.Fields.{record-count}
 use Rattle.region_file.specs.Chain.{numbers}
-use Rattle.region_file.specs.Judge.{chain}
+use Rattle.region_file.specs.Judge.{chain-outcome}
 use Rattle.region_file.proofs.Chain.{Linked, linked, chain-some}
 use Rattle.visits.specs.declared.file_walks.FileVisit.{FileVisit}
 use Rattle.visits.specs.declared.file_walks.FileWalk.{FileWalk}
@@ -46,17 +46,17 @@ pub listable-zero : (file : List ℕ) (n : ℕ) → n ≡ 0 → listable file n 
 unfolding listable
 listable-zero file n e = simp (eq-eqb n 0 e)
 
-pub listable-past : (file : List ℕ) (n : ℕ) → (n ≡ 0 → ⊥) → records file ≤ n → listable file n ≡ false
+pub listable-past : (file : List ℕ) (n : ℕ) → (n ≡ 0 → ⊥) → record-count file ≤ n → listable file n ≡ false
 unfolding listable
 listable-past file n e h = simp (ne-eqb n 0 e, le-leb _ _ h)
 
-pub listable-region : (file : List ℕ) (n : ℕ) → (n ≡ 0 → ⊥) → n < records file → listable file n ≡ within (planned file n .region)
+pub listable-region : (file : List ℕ) (n : ℕ) → (n ≡ 0 → ⊥) → n < record-count file → listable file n ≡ within (planned file n .region)
 unfolding listable
 listable-region file n e h = simp (ne-eqb n 0 e, lt-leb _ _ h)
 
 listable-within : (file : List ℕ) (n : ℕ) → listable file n ≡ true → within (planned file n .region) ≡ true
 unfolding listable
-listable-within file n e = go (not (eqb n 0)) (not (leb (records file) n)) e
+listable-within file n e = go (not (eqb n 0)) (not (leb (record-count file) n)) e
   where
     go : (a b : Bool) {d : Bool} → (a && (b && d)) ≡ true → d ≡ true
     go true true e = e
@@ -170,13 +170,14 @@ ended-comes file = before-comes file 0 0 ∙ visits-from-none file 0 0 (le-refl 
 -- ---- an accepted file
 
 pub visits-from-accepted : (further : Record → List Test) (file : List ℕ) (links : ℕ) (v : ℕ → Bool) (n : ℕ)
-    → chain further file links v n ≡ accepted tt → visits-from file links n ≡ visits-of file (numbers file links n)
+    → chain-outcome further file links v n ≡ accepted tt → visits-from file links n ≡ visits-of file (numbers file links n)
 unfolding visits-from numbers visits-of
 visits-from-accepted further file zero v n h = absurd (chain-some further file v n h)
 visits-from-accepted further file (suc links) v n h = go (linked further file links v n h) (λ v n h. visits-from-accepted further file links v n h)
   where
     go : (n ≡ 0) ⊎ Linked further file links v n →
-        ((v : ℕ → Bool) (n : ℕ) → chain further file links v n ≡ accepted tt → visits-from file links n ≡ visits-of file (numbers file links n))
+        ((v : ℕ → Bool) (n : ℕ) → chain-outcome further file links v n ≡ accepted tt
+        → visits-from file links n ≡ visits-of file (numbers file links n))
         → visits-from file (suc links) n ≡ visits-of file (numbers file (suc links) n)
     go (inl e) more = simp (listable-zero file n e, eq-eqb n 0 e)
     go (inr l) more = simp (listable-region file n (l .some) (l .link .here) ∙ l .link .sound .inside, ne-eqb n 0 (l .some), more _ _ (l .rest))

@@ -16,7 +16,7 @@ use Rattle.stage.specs.declared.regions.Position.{Position}
 use Rattle.region_file.specs.declared.fields.Record.{Record}
 use Rattle.region_file.specs.Fields.{record-at, first-record, most-records}
 use Rattle.region_file.specs.Chain.{numbers, member, on-chain}
-use Rattle.region_file.specs.Judge.{nowhere, also, chain, judge-outcome}
+use Rattle.region_file.specs.Judge.{nowhere, also, chain-outcome, judge-outcome}
 use Rattle.region_file.proofs.Chain.{Linked, linked, chain-some, judged-chain}
 use Rattle.region_file.proofs.Numbers.{member-visited, member-sound}
 use Rattle.visits.specs.declared.file_walks.FileVisit.{FileVisit}
@@ -125,12 +125,12 @@ module _ (further : Record → List Test) (file : List ℕ) (n i : ℕ) where
           ap (λ (vs : List FileVisit). vs ++ visits-at n i (visits-of file others))
           (visits-at-other n i k (planned file k) 0 (planned file k .count) (eqb-false k n e)) ∙ after
 
-  chain-once : (links : ℕ) (v : ℕ → Bool) (k : ℕ) → chain further file links v k ≡ accepted tt → Once links k
+  chain-once : (links : ℕ) (v : ℕ → Bool) (k : ℕ) → chain-outcome further file links v k ≡ accepted tt → Once links k
   unfolding numbers
   chain-once zero v k h = absurd (chain-some further file v k h)
   chain-once (suc links) v k h = go (linked further file links v k h) (chain-once links)
     where
-      go : (k ≡ 0) ⊎ Linked further file links v k → ((v : ℕ → Bool) (k : ℕ) → chain further file links v k ≡ accepted tt → Once links k)
+      go : (k ≡ 0) ⊎ Linked further file links v k → ((v : ℕ → Bool) (k : ℕ) → chain-outcome further file links v k ≡ accepted tt → Once links k)
           → Once (suc links) k
       go (inl e) more = simp (eq-eqb k 0 e) none-once
       go (inr l) more =

@@ -10,16 +10,16 @@ use lib.Dec.{leb}
 use Rattle.stage.specs.Region.{within}
 use Rattle.visits.specs.declared.file_walks.FileVisit.{FileVisit}
 use Rattle.visits.specs.declared.file_walks.FileWalk.{FileWalk}
-use Rattle.visits.specs.declared.file_walks.Step.{Step}
-use Rattle.visits.specs.declared.file_walks.Step.the-variants as step
-use Rattle.visits.specs.declared.file_walks.Stepped.{Stepped}
+use Rattle.visits.specs.declared.file_walks.FileStep.{FileStep}
+use Rattle.visits.specs.declared.file_walks.FileStep.the-variants as step
+use Rattle.visits.specs.declared.file_walks.FileStepped.{FileStepped}
 use Rattle.visits.specs.Visits.{file-visit}
 use Rattle.visits.specs.FileWalk.{visits-to-come, Gives}
 use Rattle.visits.specs.Stepping.{after-visit, step-in-record}
 use Rattle.visits.proofs.Coming.{to-come-outside, to-come-first}
 
 -- the step that gives v from the walk p
-abbrev pub stepped : FileWalk → FileVisit → Stepped
+abbrev pub stepped : FileWalk → FileVisit → FileStepped
 stepped p v = record { step = step.Visited v; walk = after-visit p }
 
 pub step-in-record-visit : (p : FileWalk) → p .index < p .planned .count → within (p .planned .region) ≡ true
@@ -45,6 +45,7 @@ gives-in-record file p ready = go (leb (p .planned .count) (p .index)) refl (wit
     go true ea b eb (inr e) = simp ea (ended e)
 
 -- a step from q is a step from p, where the same visits are to come from both
-pub gives-same : (file : List ℕ) (p q r : FileWalk) (s : Step) → visits-to-come file p ≡ visits-to-come file q → Gives file q s r → Gives file p s r
+pub gives-same : (file : List ℕ) (p q r : FileWalk) (s : FileStep) → visits-to-come file p ≡ visits-to-come file q
+    → Gives file q s r → Gives file p s r
 gives-same file p q r (step.Visited v) e g = e ∙ g
 gives-same file p q r step.Ended e g = (e ∙ g .0, g .1)

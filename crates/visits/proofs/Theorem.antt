@@ -7,22 +7,23 @@ use lib.ListN.{length}
 use Rattle.refusal.proofs.First.{then-same}
 use Rattle.region_file.specs.Judge.{no-further-tests, judge-outcome}
 use Rattle.visits.specs.declared.file_walks.FileWalk.{FileWalk}
-use Rattle.visits.specs.declared.file_walks.Step.{Step}
-use Rattle.visits.specs.declared.file_walks.Step.the-variants as step
+use Rattle.visits.specs.declared.file_walks.FileStep.{FileStep}
+use Rattle.visits.specs.declared.file_walks.FileStep.the-variants as step
 use Rattle.visits.specs.Visits.{file-visits}
 use Rattle.visits.specs.FileWalk.{visits-to-come, Gives}
 use Rattle.visits.specs.Theorem.{Steps, none, more, file-answers, Theorems}
 use Rattle.visits.proofs.FileVisits.{visit-iff, once}
 
 -- the first answer and the others
-first-then : (file : List ℕ) (p q : FileWalk) (s : Step) (ss : List Step) → Gives file p s q → ss ≡ file-answers (length ss) (visits-to-come file q)
+first-then : (file : List ℕ) (p q : FileWalk) (s : FileStep) (ss : List FileStep) → Gives file p s q
+    → ss ≡ file-answers (length ss) (visits-to-come file q)
     → s ∷ ss ≡ file-answers (suc (length ss)) (visits-to-come file p)
 unfolding file-answers
-first-then file p q (step.Visited v) ss g e = ap (λ (l : List Step). step.Visited v ∷ l) e ∙ sym (ap (file-answers (suc (length ss))) g)
+first-then file p q (step.Visited v) ss g e = ap (λ (l : List FileStep). step.Visited v ∷ l) e ∙ sym (ap (file-answers (suc (length ss))) g)
 first-then file p q step.Ended ss g e =
-    ap (λ (l : List Step). step.Ended ∷ l) (e ∙ ap (file-answers (length ss)) (g .1)) ∙ sym (ap (file-answers (suc (length ss))) (g .0))
+    ap (λ (l : List FileStep). step.Ended ∷ l) (e ∙ ap (file-answers (length ss)) (g .1)) ∙ sym (ap (file-answers (suc (length ss))) (g .0))
 
-steps : (file : List ℕ) (p q : FileWalk) (ss : List Step) → Steps file p ss q → ss ≡ file-answers (length ss) (visits-to-come file p)
+steps : (file : List ℕ) (p q : FileWalk) (ss : List FileStep) → Steps file p ss q → ss ≡ file-answers (length ss) (visits-to-come file p)
 unfolding file-answers
 steps file p q ss (none _) = refl
 steps file p q ss (more _ r _ s others g run) = first-then file p r s others g (steps file r q others run)

@@ -8,18 +8,18 @@ use lib.IntN.{pos}
 use Rattle.refusal.specs.Outcome.{Outcome, accepted}
 use Rattle.refusal.specs.Refusal.{of-refusal}
 use Rattle.stage.specs.Region.{within}
-use Rattle.region_file.specs.Fields.{records}
+use Rattle.region_file.specs.Fields.{record-count}
 use Rattle.visits.specs.declared.file_walks.FileVisit.{FileVisit}
 use Rattle.visits.specs.declared.file_walks.FileWalk.{FileWalk}
-use Rattle.visits.specs.declared.file_walks.Step.{Step}
-use Rattle.visits.specs.declared.file_walks.Step.the-variants as step
-use Rattle.visits.specs.declared.file_walks.Opened.{Opened}
-use Rattle.visits.specs.declared.file_walks.Opened.the-variants as opened
+use Rattle.visits.specs.declared.file_walks.FileStep.{FileStep}
+use Rattle.visits.specs.declared.file_walks.FileStep.the-variants as step
+use Rattle.visits.specs.declared.file_walks.OpenedFile.{OpenedFile}
+use Rattle.visits.specs.declared.file_walks.OpenedFile.the-variants as opened
 use Rattle.visits.specs.Visits.{planned, record-visits}
 
 -- n names a record of the file whose region lies within its limits
 unfoldable pub listable : List ℕ → ℕ → Bool
-listable file n = not (eqb n 0) && (not (leb (records file) n) && within (planned file n .region))
+listable file n = not (eqb n 0) && (not (leb (record-count file) n) && within (planned file n .region))
 
 -- the visits of the chain that begins with record n, over at most `links` records, up to a number that is not listable
 unfoldable pub visits-from : List ℕ → ℕ → ℕ → List FileVisit
@@ -35,12 +35,12 @@ visits-to-come file p =
     cond (within (r .region)) (record-visits (p .number) r (p .index) (r .count - p .index) ++ visits-from file (p .links) (r .next)) []
 
 -- what a step gives: the first visit to come with the walk after it, or the end where none is to come
-abbrev pub Gives : List ℕ → FileWalk → Step → FileWalk → Type 0
+abbrev pub Gives : List ℕ → FileWalk → FileStep → FileWalk → Type 0
 Gives file p (step.Visited v) q = visits-to-come file p ≡ v ∷ visits-to-come file q
 Gives file p step.Ended q = (visits-to-come file p ≡ []) × (visits-to-come file q ≡ [])
 
 -- what the answer of `open` stands for: the visits to come from the walk, or the refusal
-abbrev pub of-opened-file : List ℕ → Opened → Outcome (List FileVisit)
+abbrev pub of-opened-file : List ℕ → OpenedFile → Outcome (List FileVisit)
 of-opened-file file (opened.Open p) = accepted (visits-to-come file p)
 of-opened-file file (opened.Refused why) = of-refusal why
 

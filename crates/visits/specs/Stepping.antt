@@ -7,8 +7,8 @@ use Prim.Native.Nat.{ℕ, _+_, _<_}
 use lib.Dec.{leb}
 use Rattle.stage.specs.Region.{within}
 use Rattle.visits.specs.declared.file_walks.FileWalk.{FileWalk}
-use Rattle.visits.specs.declared.file_walks.Step.the-variants as step
-use Rattle.visits.specs.declared.file_walks.Stepped.{Stepped}
+use Rattle.visits.specs.declared.file_walks.FileStep.the-variants as step
+use Rattle.visits.specs.declared.file_walks.FileStepped.{FileStepped}
 use Rattle.visits.specs.Visits.{file-visit}
 use Rattle.visits.specs.FileWalk.{visits-from, visits-to-come}
 
@@ -17,7 +17,7 @@ abbrev pub after-visit : FileWalk → FileWalk
 after-visit p = record { number = p .number; planned = p .planned; index = p .index + 1; links = p .links }
 
 -- a step that does not leave the walk's record: the visit at its index, or the end where the record has no such visit or no position
-unfoldable pub step-in-record : FileWalk → Stepped
+unfoldable pub step-in-record : FileWalk → FileStepped
 step-in-record p =
     cond (not (leb (p .planned .count) (p .index)) && within (p .planned .region))
     (record { step = step.Visited (file-visit (p .number) (p .planned) (p .index)); walk = after-visit p })

@@ -12,21 +12,21 @@ use Rattle.region_file.specs.Chain.{on-chain}
 use Rattle.region_file.specs.Judge.{judge-outcome}
 use Rattle.visits.specs.declared.file_walks.FileVisit.{FileVisit}
 use Rattle.visits.specs.declared.file_walks.FileWalk.{FileWalk}
-use Rattle.visits.specs.declared.file_walks.Step.{Step}
-use Rattle.visits.specs.declared.file_walks.Step.the-variants as step
-use Rattle.visits.specs.declared.file_walks.Opened.the-variants as opened
+use Rattle.visits.specs.declared.file_walks.FileStep.{FileStep}
+use Rattle.visits.specs.declared.file_walks.FileStep.the-variants as step
+use Rattle.visits.specs.declared.file_walks.OpenedFile.the-variants as opened
 use Rattle.visits.specs.Visits.{planned, visit-position-outcome, file-visit, file-visits, visits-outcome}
 use Rattle.visits.specs.FileWalk.{visits-to-come, Gives, of-opened-file}
 
 -- ---- steps
 
 -- steps one after the other, each from the walk that the one before handed back
-pub data Steps (file : List ℕ) : FileWalk → List Step → FileWalk → Type 0 where
+pub data Steps (file : List ℕ) : FileWalk → List FileStep → FileWalk → Type 0 where
   none : (p : FileWalk) → Steps file p [] p
-  more : (p q r : FileWalk) (s : Step) (ss : List Step) → Gives file p s q → Steps file q ss r → Steps file p (s ∷ ss) r
+  more : (p q r : FileWalk) (s : FileStep) (ss : List FileStep) → Gives file p s q → Steps file q ss r → Steps file p (s ∷ ss) r
 
 -- what n steps give where these visits are to come: the visits, and the end in every step after them
-unfoldable pub file-answers : ℕ → List FileVisit → List Step
+unfoldable pub file-answers : ℕ → List FileVisit → List FileStep
 file-answers zero vs = []
 file-answers (suc n) [] = step.Ended ∷ file-answers n []
 file-answers (suc n) (v ∷ vs) = step.Visited v ∷ file-answers n vs
@@ -52,9 +52,9 @@ visits-at n i (v ∷ vs) = cond (eqb (v .number) n && eqb (v .index) i) (v ∷ v
 
 pub record Theorems : Type 0 where
   -- from any walk over any file
-  pub steps : (file : List ℕ) (p q : FileWalk) (ss : List Step) → Steps file p ss q → ss ≡ file-answers (length ss) (visits-to-come file p)
+  pub steps : (file : List ℕ) (p q : FileWalk) (ss : List FileStep) → Steps file p ss q → ss ≡ file-answers (length ss) (visits-to-come file p)
   -- ONE claim about the list of steps from the walk that `open` gives
-  pub listed : (file : List ℕ) (p q : FileWalk) (ss : List Step) → of-opened-file file (opened.Open p) ≡ visits-outcome file
+  pub listed : (file : List ℕ) (p q : FileWalk) (ss : List FileStep) → of-opened-file file (opened.Open p) ≡ visits-outcome file
       → Steps file p ss q → ss ≡ file-answers (length ss) (file-visits file)
   -- of an accepted file, whatever further tests it passed: a visit is among the file's visits exactly where its record is on the chain, its
   -- index is below the record's count, and its position is where the visit of the record with that index lies

@@ -30,25 +30,25 @@ pub struct FileWalk {
 }
 
 // What a step gives: the next visit, or the end.
-pub enum Step {
+pub enum FileStep {
     Visited(FileVisit),
     Ended,
 }
 
 // A step together with the walk after it.
-pub struct Stepped {
-    pub step: Step,
+pub struct FileStepped {
+    pub step: FileStep,
     pub walk: FileWalk,
 }
 
 // What opening a file gives: the walk before the first visit, or the refusal of the file.
-pub enum Opened {
+pub enum OpenedFile {
     Open(FileWalk),
     Refused(Refusal),
 }
 
 // A step that does not leave the walk's record: the visit at its index, or the end where the record has no such visit or no position.
-fn step_in_record(walk: FileWalk) -> Stepped
+fn step_in_record(walk: FileWalk) -> FileStepped
     ensures { λ r. ⌜ r ≡ step-in-record walk ⌝ }
 {
     let number = walk.number;
@@ -56,19 +56,19 @@ fn step_in_record(walk: FileWalk) -> Stepped
     let index = walk.index;
     let links = walk.links;
     if planned.count <= index {
-        return Stepped {
-            step: Step::Ended,
+        return FileStepped {
+            step: FileStep::Ended,
             walk,
         };
     }
     let placed = position_of(planned, index);
     match placed {
-        Placed::Refused(_) => Stepped {
-            step: Step::Ended,
+        Placed::Refused(_) => FileStepped {
+            step: FileStep::Ended,
             walk,
         },
-        Placed::At(at) => Stepped {
-            step: Step::Visited(FileVisit {
+        Placed::At(at) => FileStepped {
+            step: FileStep::Visited(FileVisit {
                 number,
                 index,
                 x: at.x,
@@ -86,15 +86,15 @@ fn step_in_record(walk: FileWalk) -> Stepped
 
 impl FileWalk {
     // The walk before the first visit of a file, or the refusal of the file.
-    pub fn open(file: &[u8]) -> Opened
+    pub fn open(file: &[u8]) -> OpenedFile
         ensures { λ r. ⌜ of-opened-file (now (file .entry)) r ≡ visits-outcome (now (file .entry)) ⌝ }
     {
         let judged = region_file::judge(file);
         match judged {
-            Judgement::Refused(why) => Opened::Refused(why),
+            Judgement::Refused(why) => OpenedFile::Refused(why),
             Judgement::Accepted => {
                 let first = region_file::first_record(file);
-                Opened::Open(before_record(first, MOST_RECORDS))
+                OpenedFile::Open(before_record(first, MOST_RECORDS))
             }
         }
     }
@@ -107,7 +107,7 @@ impl FileWalk {
     }
 
     // The next visit and the walk after it, for every file and every walk, also one made by hand or opened over another file.
-    pub fn step(self, file: &[u8]) -> Stepped
+    pub fn step(self, file: &[u8]) -> FileStepped
         ensures { λ r. ⌜ Gives (now (file .entry)) self (r .step) (r .walk) ⌝ }
     {
         let planned = self.planned;
@@ -116,8 +116,8 @@ impl FileWalk {
         }
         let region = planned.region;
         if !region.within() {
-            return Stepped {
-                step: Step::Ended,
+            return FileStepped {
+                step: FileStep::Ended,
                 walk: self,
             };
         }

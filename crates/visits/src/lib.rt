@@ -4,9 +4,9 @@ mod file_walks;
 mod positions;
 mod records;
 
+pub use file_walks::FileStep;
+pub use file_walks::FileStepped;
 pub use file_walks::FileVisit;
 pub use file_walks::FileWalk;
-pub use file_walks::Opened;
-pub use file_walks::Step;
-pub use file_walks::Stepped;
+pub use file_walks::OpenedFile;
 pub use positions::visit_position;

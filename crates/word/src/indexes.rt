@@ -9,10 +9,11 @@ pub type Index = u32;
 // The number of bits of an index.
 pub const INDEX_BITS: u32 = 32;
 
-pub const LAST_INDEX: Index = 4294967295;
+// The index of the last visit that a plan has.
+pub const LAST_INDEX: Index = ((1u64 << INDEX_BITS) - 1) as Index;
 
 // A generator matrix has a column for each bit of an index.
-pub const COLUMNS: usize = 32;
+pub const COLUMNS: usize = INDEX_BITS as usize;
 
 // The columns of a generator matrix; the top bit of a column is row 0.
 pub type Columns = [u32; COLUMNS];

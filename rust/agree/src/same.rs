@@ -19,7 +19,7 @@ pub fn refusal(refusal: refusal::Refusal) -> Refusal {
         refusal::Refusal::Count => Refusal::IndexRange,
         refusal::Refusal::Region => Refusal::Region,
         refusal::Refusal::FileLength => Refusal::FileLength,
-        refusal::Refusal::HeadBytes => Refusal::Header,
+        refusal::Refusal::HeadBytes => Refusal::ReservedBytes,
         refusal::Refusal::MissingRecord => Refusal::MissingRecord,
         refusal::Refusal::Return => Refusal::ChainReturns,
         refusal::Refusal::VisitCount => Refusal::VisitCount,

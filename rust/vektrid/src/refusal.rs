@@ -45,7 +45,7 @@ pub enum Refusal {
     /// 11: a file is empty, over 65,536 bytes, or not whole records.
     FileLength,
     /// 12: bytes 8 to 31 of record 0 are not all zero.
-    Header,
+    ReservedBytes,
     /// 13: the chain names a record that the file lacks.
     MissingRecord,
     /// 14: the chain returns to a record.
@@ -66,7 +66,7 @@ const PLAIN: [Refusal; 14] = [
     Refusal::IndexRange,
     Refusal::Region,
     Refusal::FileLength,
-    Refusal::Header,
+    Refusal::ReservedBytes,
     Refusal::MissingRecord,
     Refusal::ChainReturns,
     Refusal::VisitCount,
@@ -108,7 +108,7 @@ impl Refusal {
             Refusal::IndexRange => 9,
             Refusal::Region => 10,
             Refusal::FileLength => 11,
-            Refusal::Header => 12,
+            Refusal::ReservedBytes => 12,
             Refusal::MissingRecord => 13,
             Refusal::ChainReturns => 14,
             Refusal::VisitCount => 15,
@@ -128,7 +128,7 @@ impl Refusal {
             Refusal::IndexRange => "start + count is above 2^32",
             Refusal::Region => "an edge or an extent of the region is outside its limits",
             Refusal::FileLength => "the file is empty, over 65,536 bytes, or not whole records",
-            Refusal::Header => "bytes 8 to 31 of record 0 are not all zero",
+            Refusal::ReservedBytes => "bytes 8 to 31 of record 0 are not all zero",
             Refusal::MissingRecord => "the chain names a record that the file lacks",
             Refusal::ChainReturns => "the chain returns to a record",
             Refusal::VisitCount => "a record has more than 4,096 visits",

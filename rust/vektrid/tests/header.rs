@@ -99,7 +99,7 @@ fn refusals_have_the_names_and_numbers_of_the_header() {
         Refusal::IndexRange,
         Refusal::Region,
         Refusal::FileLength,
-        Refusal::Header,
+        Refusal::ReservedBytes,
         Refusal::MissingRecord,
         Refusal::ChainReturns,
         Refusal::VisitCount,

@@ -145,7 +145,7 @@ fn eleven_to_fifteen_of_a_file() {
         (example()[..40].to_vec(), Refusal::FileLength),
         (Vec::new(), Refusal::FileLength),
         (vec![0; 65_568], Refusal::FileLength),
-        (example_with(RESERVED, 1), Refusal::Header),
+        (example_with(RESERVED, 1), Refusal::ReservedBytes),
         (example_with(NEXT, 5), Refusal::MissingRecord),
         (example_with(NEXT, 1), Refusal::ChainReturns),
         (example_with(COUNT, 4_097), Refusal::VisitCount),

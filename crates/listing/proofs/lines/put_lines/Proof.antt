@@ -9,7 +9,7 @@ use borrow.Author.Needs.{needs}
 use denote.Ref.{now}
 use lib.ListN.{length, take, drop}
 use Rattle.visits.specs.declared.file_walks.FileVisit.{FileVisit}
-use Rattle.visits.specs.declared.file_walks.Step.{Step}
+use Rattle.visits.specs.declared.file_walks.FileStep.{FileStep}
 use Rattle.visits.specs.FileWalk.{visits-to-come, Gives}
 use Rattle.listing.specs.Listing.{line, lines}
 use Rattle.listing.proofs.Putting.{line-longest, line-some, lines-more, joined, beyond}
@@ -52,7 +52,7 @@ returns c =
     let s = c .before .before .before .step in
     let file = now (a .file) in
     let g : (visits-to-come file (l .walk) ≡ []) × (visits-to-come file (s .result .walk) ≡ []) = subst
-    (λ (k : Step). Gives file (l .walk) k (s .result .walk)) (c .enum-told .given .1) (s .ensures) in
+    (λ (k : FileStep). Gives file (l .walk) k (s .result .walk)) (c .enum-told .given .1) (s .ensures) in
     record {
       on = l .inv .0;
       fits = l .inv .1;
@@ -93,7 +93,7 @@ loop-again c =
     let file = now (a .file) in
     let e = u .last .1 .0 in
     let rest = visits-to-come file (s .result .walk) in
-    let g : visits-to-come file (l .walk) ≡ v ∷ rest = subst (λ (k : Step). Gives file (l .walk) k (s .result .walk))
+    let g : visits-to-come file (l .walk) ≡ v ∷ rest = subst (λ (k : FileStep). Gives file (l .walk) k (s .result .walk))
     (c .before .before .before .before .before .answer .given .1) (s .ensures) in (
       omega (arith, l .inv .0, u .ensures .0),
       omega (

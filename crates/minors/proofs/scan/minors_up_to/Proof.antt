@@ -9,10 +9,10 @@ use Rattle.minors.proofs.scan.minors_up_to.Statement.{statement}
 use Rattle.minors.proofs.scan.minors_up_to.Tie as tie
 
 abbrev Inv-loop : tie.InvT-loop
-Inv-loop a top left₀ m₀ left m = (a ≤ m) × (m ≤ top) × Going left₀ a left m
+Inv-loop a top reduced₀ m₀ reduced m = (a ≤ m) × (m ≤ top) × Going reduced₀ a reduced m
 
 abbrev μ-loop : tie.MeasureT-loop
-μ-loop a top left₀ m₀ left m = top - m
+μ-loop a top reduced₀ m₀ reduced m = top - m
 
 loop-holds : tie.Need-loop-holds Inv-loop μ-loop
 loop-holds c = (omega arith, omega arith, going-none (c .args .words) (c .args .a))
@@ -50,9 +50,9 @@ loop-again : tie.Need-loop-again Inv-loop μ-loop
 loop-again c =
     let a = c .before .before .before .before .args in
     let l = c .before .before .before .loop in
-    let one : digit 2 (l .m) (getD (l .left) (l .m - a .a) 0) ≡ 1 = omega (arith, c .before .if1 .left) in
+    let one : digit 2 (l .m) (getD (l .reduced) (l .m - a .a) 0) ≡ 1 = omega (arith, c .before .if1 .left) in
     let small : l .m < 32 = omega arith in
-    let more = going-more (a .words) (l .left) (c .clear .result) (a .a) (l .m) (l .inv .2) (l .inv .0) small one (c .clear .ensures) in
+    let more = going-more (a .words) (l .reduced) (c .clear .result) (a .a) (l .m) (l .inv .2) (l .inv .0) small one (c .clear .ensures) in
     (omega arith, omega arith, more)
 
 returns-2 : tie.Need-returns-2 Inv-loop μ-loop

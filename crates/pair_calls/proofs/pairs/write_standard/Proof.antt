@@ -26,26 +26,26 @@ returns c =
 standard-requires : tie.Need-standard-requires
 standard-requires c κs = search needs
 
-slice-relend-prefix-put : tie.Need-slice-relend-prefix-put
-slice-relend-prefix-put c = search needs
+slice-relend-prefix-write-columns : tie.Need-slice-relend-prefix-write-columns
+slice-relend-prefix-write-columns c = search needs
 
-slice-aggregate-put : tie.Need-slice-aggregate-put
-slice-aggregate-put c = sym (length-take-le 32 (c .before .before .before .before .before .before .args .words .now) (omega arith))
+slice-aggregate-write-columns : tie.Need-slice-aggregate-write-columns
+slice-aggregate-write-columns c = sym (length-take-le 32 (c .before .before .before .before .before .before .args .words .now) (omega arith))
 
-put-requires : tie.Need-put-requires
-put-requires c κs = length-take-le 32 (c .before .before .before .before .before .before .args .words .now) (omega arith)
+write-columns-requires : tie.Need-write-columns-requires
+write-columns-requires c κs = length-take-le 32 (c .before .before .before .before .before .before .args .words .now) (omega arith)
 
-sub-put : tie.Need-sub-put
-sub-put c = search needs
+sub-write-columns : tie.Need-sub-write-columns
+sub-write-columns c = search needs
 
-part-put-start : tie.Need-part-put-start
-part-put-start c = search needs
+part-write-columns-start : tie.Need-part-write-columns-start
+part-write-columns-start c = search needs
 
-part-put-end : tie.Need-part-put-end
-part-put-end c = search needs
+part-write-columns-end : tie.Need-part-write-columns-end
+part-write-columns-end c = search needs
 
-put-requires-2 : tie.Need-put-requires-2
-put-requires-2 c κs = search needs
+write-columns-requires-2 : tie.Need-write-columns-requires-2
+write-columns-requires-2 c κs = search needs
 
 same-length : tie.Need-same-length
 same-length c = search needs
@@ -56,12 +56,12 @@ returns-2 c =
     let s = d .before .before .before .before in
     let w = s .before .before .before .args .words .now in
     let e = loading-accepts w (s .before .if1 .left) in
-    let x = d .put .last .1 .0 in
-    let y = c .before .before .put2 .last .1 .0 in
-    let long : length x ≡ 32 = d .put .kept .1 .0 ∙ length-take-le 32 w (omega arith) in (
+    let x = d .write-columns .last .1 .0 in
+    let y = c .before .before .write-columns2 .last .1 .0 in
+    let long : length x ≡ 32 = d .write-columns .kept .1 .0 ∙ length-take-le 32 w (omega arith) in (
       accepted-answer e,
-      halves 32 x y (drop 32 w) long ∙ ap₂ (λ (l r : List ℕ). l ++ r) (d .put .ensures ∙ ap (λ (P : Plan). P .x) (s .standard .ensures))
-          (c .before .before .put2 .ensures ∙ ap (λ (P : Plan). P .y) (s .standard .ensures)) ∙ sym (granted-accepted _ _ e),
+      halves 32 x y (drop 32 w) long ∙ ap₂ (λ (l r : List ℕ). l ++ r) (d .write-columns .ensures ∙ ap (λ (P : Plan). P .x) (s .standard .ensures))
+          (c .before .before .write-columns2 .ensures ∙ ap (λ (P : Plan). P .y) (s .standard .ensures)) ∙ sym (granted-accepted _ _ e),
     )
 
 pub write-standard-spec : {M : Type 1} → statement M
@@ -71,12 +71,12 @@ write-standard-spec =
     number-requires
     returns
     standard-requires
-    slice-relend-prefix-put
-    slice-aggregate-put
-    put-requires
-    sub-put
-    part-put-start
-    part-put-end
-    put-requires-2
+    slice-relend-prefix-write-columns
+    slice-aggregate-write-columns
+    write-columns-requires
+    sub-write-columns
+    part-write-columns-start
+    part-write-columns-end
+    write-columns-requires-2
     same-length
     returns-2)

@@ -8,7 +8,7 @@ use borrow.Author.Needs.{needs}
 use lib.ListN.{length, take, drop, length-drop}
 use lib.Seq.{length-take-le}
 use Rattle.ranges.proofs.Filled.{Filled, filled-none, filled-lent, filled-all}
-use Rattle.products.specs.Products.{offset-product}
+use Rattle.products.specs.Products.{product-added}
 use Rattle.products.proofs.fills.in_parts.Statement.{statement}
 use Rattle.products.proofs.fills.in_parts.Tie as tie
 
@@ -28,7 +28,7 @@ abbrev grouped : tie.After-in-groups → List ℕ
 grouped c = let d = c .before .before .before .before .before in putMid (head d) (whole d - head d) (headed d) (c .in-groups .last .1 .1 .0)
 
 abbrev of-axis : tie.After-singly → ℕ → ℕ
-of-axis c = let a = c .before .before .before .before .before .args in offset-product (a .columns) (a .added)
+of-axis c = let a = c .before .before .before .before .before .args in product-added (a .columns) (a .added)
 
 head-filled : (c : tie.After-singly) → let a = c .before .before .before .before .before .args in
     Filled (of-axis c) (a .start) (head c) (a .out .now) (headed c)

@@ -18,11 +18,11 @@ abbrev μ-loop : tie.MeasureT-loop
 first-group-requires : tie.Need-first-group-requires Inv-loop μ-loop
 first-group-requires c κs = c .before .pre .0 .0
 
-offset-product-requires : tie.Need-offset-product-requires Inv-loop μ-loop
-offset-product-requires c κs = tt
+product-added-requires : tie.Need-product-added-requires Inv-loop μ-loop
+product-added-requires c κs = tt
 
 loop-holds : tie.Need-loop-holds Inv-loop μ-loop
-loop-holds c = (along-none (c .offset-product .ensures), omega arith)
+loop-holds c = (along-none (c .product-added .ensures), omega arith)
 
 add-put-group : tie.Need-add-put-group Inv-loop μ-loop
 add-put-group c = omega arith
@@ -139,7 +139,7 @@ in-groups-spec =
     Inv-loop
     μ-loop
     first-group-requires
-    offset-product-requires
+    product-added-requires
     loop-holds
     add-put-group
     mul-put-group

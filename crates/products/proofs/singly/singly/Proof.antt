@@ -7,7 +7,7 @@ use lib.Count.{trailingZeros}
 use lib.ListN.{length, length-set}
 use mir.Syntax.{w32}
 use mir.Val.{Fits}
-use Rattle.products.specs.Products.{offset-product}
+use Rattle.products.specs.Products.{product-added}
 use Rattle.products.proofs.Consecutive.{Along, along-none, along-one, along-all, next-word}
 use Rattle.products.proofs.singly.singly.Statement.{statement}
 use Rattle.products.proofs.singly.singly.Tie as tie
@@ -19,8 +19,8 @@ abbrev μ-loop : tie.MeasureT-loop
 μ-loop start out₀ axis word₀ k₀ out word k = length out₀ - k
 
 -- the index as the loop has it
-following : (C : List ℕ) (s start k : ℕ) {w : ℕ} → w ≡ offset-product C s (start + k + 1) → w ≡ offset-product C s (start + (k + 1))
-following C s start k e = e ∙ ap (offset-product C s) (omega arith)
+following : (C : List ℕ) (s start k : ℕ) {w : ℕ} → w ≡ product-added C s (start + k + 1) → w ≡ product-added C s (start + (k + 1))
+following C s start k e = e ∙ ap (product-added C s) (omega arith)
 
 -- where one more word is to come, its index is one
 room : (c : tie.Then1 Inv-loop μ-loop) → let at = c .before .before .before .before .before .args .start in
@@ -37,11 +37,11 @@ room c =
     ) in
     (record { fits = omega (arith, more) }, record { fits = omega (arith, more) })
 
-offset-product-requires : tie.Need-offset-product-requires Inv-loop μ-loop
-offset-product-requires c κs = tt
+product-added-requires : tie.Need-product-added-requires Inv-loop μ-loop
+product-added-requires c κs = tt
 
 loop-holds : tie.Need-loop-holds Inv-loop μ-loop
-loop-holds c = along-none (c .offset-product .ensures)
+loop-holds c = along-none (c .product-added .ensures)
 
 mul-out : tie.Need-mul-out Inv-loop μ-loop
 mul-out c = omega arith
@@ -110,7 +110,7 @@ singly-spec =
     (tie.spec
     Inv-loop
     μ-loop
-    offset-product-requires
+    product-added-requires
     loop-holds
     mul-out
     slice-write-out

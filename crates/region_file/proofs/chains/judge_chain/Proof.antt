@@ -13,8 +13,8 @@ use lib.Seq.{getD-set-other}
 use Rattle.refusal.specs.Outcome.{accepted}
 use Rattle.refusal.specs.Refusal.{of-judgement}
 use Rattle.region_file.specs.declared.fields.Record.{Record}
-use Rattle.region_file.specs.Fields.{first-record, records, most-records}
-use Rattle.region_file.specs.Judge.{no-further-tests, link-outcome, nowhere, chain}
+use Rattle.region_file.specs.Fields.{first-record, record-count, most-records}
+use Rattle.region_file.specs.Judge.{no-further-tests, link-outcome, nowhere, chain-outcome}
 use Rattle.region_file.proofs.Marks.{marked, free, free-fresh, fresh-at, marked-fresh, free-set, free-some, marked-set, unmarked}
 use Rattle.region_file.proofs.Chain.{passed, chain-end, chain-refused, chain-next}
 use Rattle.region_file.proofs.chains.judge_chain.Statement.{statement}
@@ -23,7 +23,8 @@ use Rattle.region_file.proofs.chains.judge_chain.Tie as tie
 abbrev Inv-loop : tie.InvT-loop
 Inv-loop file marks₀ n₀ marks n =
     (length marks ≡ most-records) × (getD marks 0 0 ≡ 0) × (n < 2 ^ 32)
-    × (chain no-further-tests file (free marks) (marked marks) n ≡ chain no-further-tests file most-records nowhere (first-record file))
+    × (chain-outcome no-further-tests file (free marks) (marked marks) n
+    ≡ chain-outcome no-further-tests file most-records nowhere (first-record file))
 
 abbrev μ-loop : tie.MeasureT-loop
 μ-loop file marks₀ n₀ marks n = free marks
@@ -34,7 +35,7 @@ record Taken (file ms : List ℕ) (n : ℕ) : Type 0 where
   pub here : n < length ms
   pub clear : getD ms n 0 ≡ 0
 
-taken : (file ms : List ℕ) (n : ℕ) → records file ≤ most-records → length ms ≡ most-records
+taken : (file ms : List ℕ) (n : ℕ) → record-count file ≤ most-records → length ms ≡ most-records
     → link-outcome no-further-tests file (marked ms n) n ≡ accepted tt → Taken file ms n
 taken file ms n few l h =
     let p = passed no-further-tests file (marked ms n) n h .0 in
@@ -50,9 +51,9 @@ loop-holds c =
       length-replicate {A = ℕ} most-records 0,
       fresh-at most-records 0,
       search needs,
-      ap₂ (λ (f : ℕ) (m : ℕ → Bool). chain no-further-tests (now (a .file)) f m (c .first-record .result))
+      ap₂ (λ (f : ℕ) (m : ℕ → Bool). chain-outcome no-further-tests (now (a .file)) f m (c .first-record .result))
           (free-fresh most-records) (marked-fresh most-records)
-          ∙ ap (chain no-further-tests (now (a .file)) most-records nowhere) (c .first-record .ensures),
+          ∙ ap (chain-outcome no-further-tests (now (a .file)) most-records nowhere) (c .first-record .ensures),
     )
 
 cast-at : tie.Need-cast-at Inv-loop μ-loop
@@ -128,10 +129,10 @@ loop-again c =
       length-set (i .marks) (i .n) 1 ∙ i .inv .0,
       getD-set-other (i .marks) (i .n) 0 1 0 q ∙ i .inv .1,
       search needs,
-      ap₂ (λ (m : ℕ → Bool) (k : ℕ). chain no-further-tests (now (a .file)) (free left) m k) (marked-set (i .marks) (i .n) (t .here))
+      ap₂ (λ (m : ℕ → Bool) (k : ℕ). chain-outcome no-further-tests (now (a .file)) (free left) m k) (marked-set (i .marks) (i .n) (t .here))
           (ap (λ (x : Record). x .next) (c .record-at .ensures))
           ∙ sym (chain-next no-further-tests (now (a .file)) v (i .n) ne (free left) (t .passes))
-          ∙ ap (λ (f : ℕ). chain no-further-tests (now (a .file)) f v (i .n)) (sym (free-set (i .marks) (i .n) (t .here) (t .clear)))
+          ∙ ap (λ (f : ℕ). chain-outcome no-further-tests (now (a .file)) f v (i .n)) (sym (free-set (i .marks) (i .n) (t .here) (t .clear)))
           ∙ i .inv .3,
     )
 

@@ -8,7 +8,7 @@ use borrow.Author.Tests.{le-leb, lt-leb}
 use denote.Ref.{now}
 use lib.Dec.{leb}
 use Rattle.refusal.proofs.First.{first-refuses, first-passes}
-use Rattle.region_file.specs.Fields.{records}
+use Rattle.region_file.specs.Fields.{record-count}
 use Rattle.region_file.specs.Judge.{no-further-tests, record-outcome}
 use Rattle.region_file.proofs.chains.judge_link.Statement.{statement}
 use Rattle.region_file.proofs.chains.judge_link.Tie as tie
@@ -20,7 +20,7 @@ returns : tie.Need-returns
 returns c = sym (first-refuses _ 13 _
     (le-leb _ _ (subst (λ (k : ℕ). k ≤ c .before .before .before .args .n) (c .before .record-count .ensures) (c .if1 .taken))))
 
-here : (c : tie.Else1) → leb (records (now (c .before .before .before .args .file))) (c .before .before .before .args .n) ≡ false
+here : (c : tie.Else1) → leb (record-count (now (c .before .before .before .args .file))) (c .before .before .before .args .n) ≡ false
 here c = lt-leb _ _ (subst (λ (k : ℕ). c .before .before .before .args .n < k) (c .before .record-count .ensures) (c .if1 .left))
 
 returns-2 : tie.Need-returns-2

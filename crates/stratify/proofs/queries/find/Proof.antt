@@ -9,7 +9,7 @@ use Rattle.linear.proofs.Prime.{two}
 use Rattle.net.specs.Sequence.{VisitIn}
 use Rattle.net.specs.Shape.{Shape}
 use Rattle.net.proofs.Interval.{block-lt}
-use Rattle.net.proofs.Query.{locate-found, locate-no-net}
+use Rattle.net.proofs.Query.{locate-found, locate-bad-shape}
 use Rattle.word.proofs.Joined.{joined-whole}
 use Rattle.plan.specs.Pair.{generators, scrambling, sequence}
 use Rattle.elimination.proofs.Determinant.{determinant-nonzero}
@@ -52,7 +52,7 @@ returns c =
     let a = s .args in
     let e = c .before .eliminate in
     sym (ap (of-location (a .m) (a .a))
-    (locate-no-net (generators (a .plan)) (scrambling (a .shift)) (a .m) (a .a) (a .block) (a .column) (a .row) (shape s) two
+    (locate-bad-shape (generators (a .plan)) (scrambling (a .shift)) (a .m) (a .a) (a .block) (a .column) (a .row) (shape s) two
     (e .result .kernel) (e .ensures .shape (s .pre .2 .wide) (s .pre .2 .size) .least (c .if1 .taken))))
 
 -- and it is a word

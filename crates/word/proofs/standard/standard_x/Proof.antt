@@ -11,7 +11,7 @@ reversed-requires : tie.Need-reversed-requires
 reversed-requires c κs = search needs
 
 returns : tie.Need-returns
-returns c = c .reversed .ensures ∙ sym (theorems .standard-matrices one-lt-two 32 32 (omega arith) .reversal (c .before .args .index))
+returns c = c .reversed .ensures ∙ sym (theorems .standard-laws one-lt-two 32 32 (omega arith) .reversal (c .before .args .index))
 
 pub standard-x-spec : {M : Type 1} → statement M
 standard-x-spec = tie.close (tie.spec reversed-requires returns)

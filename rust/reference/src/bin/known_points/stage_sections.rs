@@ -8,15 +8,15 @@ use reference::stage::Region;
 use reference::unit::{double, single, Singles};
 use reference::walk::{Step, Walk};
 
-/// The shift of the second places and of the steps.
+/// The shift of the second visits and of the steps.
 const SHIFT: Shift = Shift { x: 305_419_896, y: 2_596_069_104 };
 
 pub fn all(output: &mut impl Write) -> io::Result<()> {
     units_section(output)?;
     let region = Region { left: -500, top: 0, width: 1000, height: 800 };
-    places_section(output, region, NO_SHIFT)?;
+    visits_section(output, region, NO_SHIFT)?;
     let region = Region { left: -1_000_000, top: 1_000_000, width: 1_000_000, height: 999_983 };
-    places_section(output, region, SHIFT)?;
+    visits_section(output, region, SHIFT)?;
     positions_section(output)?;
     steps_section(output)
 }
@@ -31,9 +31,9 @@ fn units_section(output: &mut impl Write) -> io::Result<()> {
     Ok(())
 }
 
-fn places_section(output: &mut impl Write, region: Region, shift: Shift) -> io::Result<()> {
+fn visits_section(output: &mut impl Write, region: Region, shift: Shift) -> io::Result<()> {
     let Region { left, top, width, height } = region;
-    writeln!(output, "places {left} {top} {width} {height} {} {}", shift.x, shift.y)?;
+    writeln!(output, "visits {left} {top} {width} {height} {} {}", shift.x, shift.y)?;
     let pair = Pair::standard();
     for index in 0..1024 {
         let point = pair.point(index, shift);

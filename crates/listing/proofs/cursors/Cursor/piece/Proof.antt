@@ -16,7 +16,7 @@ use Rattle.listing.proofs.Putting.{lead-longest, lines-none, joined, be
 use Rattle.listing.proofs.cursors.Cursor.piece.Statement.{statement}
 use Rattle.listing.proofs.cursors.Cursor.piece.Tie as tie
 
--- buffers that agree from an offset on agree from a later one on
+-- buffers that agree from a byte on agree from a later one on
 behind : (n at : ℕ) (d e : List ℕ) → at ≤ n → drop at d ≡ drop at e → drop n d ≡ drop n e
 behind n at d e h q =
     let k : n ≡ at + (n - at) = omega arith in

@@ -5,7 +5,7 @@ use mathlib.Core.Logic.{inl}
 use borrow.Author.Tests.{not-true, not-false}
 use borrow.Author.Needs.{needs}
 use denote.Ref.{now}
-use Rattle.visits.specs.declared.file_walks.Stepped.{Stepped}
+use Rattle.visits.specs.declared.file_walks.FileStepped.{FileStepped}
 use Rattle.visits.specs.FileWalk.{Gives}
 use Rattle.visits.specs.Stepping.{step-in-record}
 use Rattle.visits.proofs.Coming.{to-come-outside, to-come-next}
@@ -20,7 +20,7 @@ returns : tie.Need-returns
 returns c =
     let a = c .before .before .before .before .before .before .args in
     let file = now (a .file) in
-    subst (λ (s : Stepped). Gives file (a .self) (s .step) (s .walk)) (sym (c .step-in-record .ensures))
+    subst (λ (s : FileStepped). Gives file (a .self) (s .step) (s .walk)) (sym (c .step-in-record .ensures))
     (gives-in-record file (a .self) (inl (c .before .if1 .taken)))
 
 within-requires : tie.Need-within-requires
@@ -45,7 +45,7 @@ returns-3 c =
     let at = c .before .at-next-visit in
     let next = to-come-next file (a .self) (sym (c .before .before .before .within .ensures) ∙ not-false _ (c .before .before .if2 .left))
     (c .before .before .before .before .before .if1 .left) in
-    subst (λ (s : Stepped). Gives file (a .self) (s .step) (s .walk)) (sym (c .step-in-record2 .ensures))
+    subst (λ (s : FileStepped). Gives file (a .self) (s .step) (s .walk)) (sym (c .step-in-record2 .ensures))
     (gives-same file (a .self) (at .result) (step-in-record (at .result) .walk) (step-in-record (at .result) .step) (next ∙ sym (at .ensures .same))
     (gives-in-record file (at .result) (at .ensures .ready)))
 

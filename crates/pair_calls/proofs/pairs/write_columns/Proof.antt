@@ -1,10 +1,10 @@
--- `put`: a copy between slices of equal length is whole.
+-- `write_columns`: a copy between slices of equal length is whole.
 use mathlib.Core.Path.{_∙_}
 use native.Mathlib.Omega.{arith}
 use borrow.Author.Needs.{needs}
 use Rattle.word.proofs.Copied.{copied-whole}
-use Rattle.pair_calls.proofs.pairs.put.Statement.{statement}
-use Rattle.pair_calls.proofs.pairs.put.Tie as tie
+use Rattle.pair_calls.proofs.pairs.write_columns.Statement.{statement}
+use Rattle.pair_calls.proofs.pairs.write_columns.Tie as tie
 
 slice-aggregate-copy : tie.Need-slice-aggregate-copy
 slice-aggregate-copy c = search needs
@@ -20,5 +20,5 @@ returns c =
     let s = c .before .before .before .before .before .before in
     c .before .before .copy .ensures ∙ copied-whole (s .args .out .now) (s .args .t1) (omega arith)
 
-pub put-spec : {M : Type 1} → statement M
-put-spec = tie.close (tie.spec slice-aggregate-copy copy-requires same-length returns)
+pub write-columns-spec : {M : Type 1} → statement M
+write-columns-spec = tie.close (tie.spec slice-aggregate-copy copy-requires same-length returns)

@@ -21,7 +21,7 @@ fn position_fields(region: Region, x: u32, y: u32, last: u8) {
     }
 }
 
-fn place_line(region: Region, shift: Shift, index: u32) {
+fn visit_line(region: Region, shift: Shift, index: u32) {
     let plan = Plan::standard();
     let at = plan.point(shift, index);
     print::number(index);
@@ -29,31 +29,31 @@ fn place_line(region: Region, shift: Shift, index: u32) {
     singles_line(unit::singles_at(plan, shift, index));
 }
 
-pub fn first_place_line(index: u32) {
+pub fn first_visit_line(index: u32) {
     let region = Region {
         left: -500,
         top: 0,
         width: 1000,
         height: 800,
     };
-    place_line(region, pairs::no_shift(), index);
+    visit_line(region, pairs::no_shift(), index);
 }
 
-pub fn second_place_line(index: u32) {
+pub fn second_visit_line(index: u32) {
     let region = Region {
         left: -1000000,
         top: 1000000,
         width: 1000000,
         height: 999983,
     };
-    place_line(region, pairs::first_shift(), index);
+    visit_line(region, pairs::first_shift(), index);
 }
 
-pub fn places() {
-    print::text(b"places -500 0 1000 800 0 0\n");
-    lines(Section::FirstPlaces, 1024);
-    print::text(b"places -1000000 1000000 1000000 999983 305419896 2596069104\n");
-    lines(Section::SecondPlaces, 1024);
+pub fn visits() {
+    print::text(b"visits -500 0 1000 800 0 0\n");
+    lines(Section::FirstVisits, 1024);
+    print::text(b"visits -1000000 1000000 1000000 999983 305419896 2596069104\n");
+    lines(Section::SecondVisits, 1024);
 }
 
 fn position_line(left: i32, top: i32, width: u32, height: u32, x: u32, y: u32) {
