@@ -1,4 +1,4 @@
--- Digits in the opposite order: each law is an equation at every place. Assumes nothing.
+-- Digits in the opposite order: each law is an equation of every digit. Assumes nothing.
 use mathlib.Core.Path.{_≡_, sym, ap, ap₂, _∙_}
 use Prim.Native.Nat.{ℕ, zero, suc, _+_, _-_, _*_, _/_, _%_, _^_, _≤_, _<_}
 use native.Mathlib.Nat.{mod-mod, mod-lt, pow-suc, pow-succ', div-add-mod', le-refl}

@@ -1,4 +1,4 @@
--- Words cleared at a bit: the code's mask, a place more, and a part more. Assumes nothing.
+-- Words cleared at a bit: the code's mask, a word more, and a part more. Assumes nothing.
 use mathlib.Core.Path.{_≡_, refl, sym, ap, ap₂, _∙_}
 use mathlib.Core.Logic.{_⊎_, inl, inr, _≢_}
 use mathlib.Core.List.{List}
@@ -55,7 +55,7 @@ masked x w h = go (w % 2) (omega arith)
     go (suc zero) l = and-mask x 32 ∙ mod-eq-of-lt h ∙ sym (mul-one x)
     go (suc (suc b)) l = absurd (omega arith)
 
--- ---- a place more
+-- ---- a word more
 
 pub record Clearing (by along from at : ℕ) (words indexes words′ indexes′ : List ℕ) : Type 0 where
   pub long-words : length words′ ≡ 40
@@ -74,7 +74,7 @@ clearing-none by along from words indexes h k = record {
   indexes-stay = λ d o. refl;
 }
 
--- one list: the place is set, and the others are as they were
+-- one list: an element is set, and the others are as they were
 at-place : (l l′ : List ℕ) (from at x : ℕ) → Stays from at l l′ → at < length l′ → (f : ℕ → ℕ)
     → ((d : ℕ) → from ≤ d → d < at → getD l′ d 0 ≡ f d) → x ≡ f at
     → ((d : ℕ) → from ≤ d → d < at + 1 → getD (set l′ at x) d 0 ≡ f d) × (from ≤ at → Stays from (at + 1) l (set l′ at x))
@@ -136,7 +136,7 @@ module _ {by along from at : ℕ} {words indexes words′ indexes′ : List ℕ}
 
 -- ---- a part more
 
--- from c up to a place the words are cleared, and from there on nothing has changed
+-- the words from c up to `to` are cleared, and from there on nothing has changed
 pub record Parts (by along c to : ℕ) (words indexes words′ indexes′ : List ℕ) : Type 0 where
   pub clears : Clears by along c to words indexes words′ indexes′
   pub words-stay : (d : ℕ) → to ≤ d → getD words′ d 0 ≡ getD words d 0

@@ -54,12 +54,12 @@ ShapeColumns G m a n words indexes = (c : ℕ) → c < n → (getD words c 0 ≡
 abbrev pub added : (by w x y : ℕ) → ℕ
 added by w x y = bitXor y (x * (w / 2 ^ trailingZeros 32 by % 2))
 
--- the words at the positions from `from` up to `to` are cleared by the word `by`, and its index `along` is added to their indexes
+-- the words from `from` up to `to` are cleared by the word `by`, and its index `along` is added to their indexes
 pub record Clears (by along from to : ℕ) (words indexes words′ indexes′ : List ℕ) : Type 0 where
   pub word : (d : ℕ) → from ≤ d → d < to → getD words′ d 0 ≡ added by (getD words d 0) by (getD words d 0)
   pub index : (d : ℕ) → from ≤ d → d < to → getD indexes′ d 0 ≡ added by (getD words d 0) along (getD indexes d 0)
 
--- and at all other positions a list is as it was
+-- and all other elements of a list are as they were
 abbrev pub Stays : (from to : ℕ) → List ℕ → List ℕ → Type 0
 Stays from to old new = (d : ℕ) → (d < from) ⊎ (to ≤ d) → getD new d 0 ≡ getD old d 0
 

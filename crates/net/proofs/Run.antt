@@ -14,7 +14,7 @@ use Rattle.net.specs.Steps.{Runs, WalkedRun}
 use Rattle.net.proofs.VisitIndex.{lies-of, of-lies}
 
 pub runs : (S : Sequence) (m k : ℕ) → Runs S m k
-runs S m k = record { one-hit = one-hit; part = part }
+runs S m k = record { one-hit = one-hit; run-from = part }
   where
     one-hit : (a : ℕ) (find : ℕ → ℕ → ℕ) → Finds S m a k find → (c r : ℕ) → c < S .b ^ a → r < S .b ^ (m - a) → hits S m a c r (run S m k) ≡ 1
     one-hit a find finds c r hc hr =

@@ -11,7 +11,7 @@ use Rattle.net.specs.Run.{visit, visits, run, hits}
 pub record Runs (S : Sequence) (m k : ℕ) : Type 0 where
   pub one-hit : (a : ℕ) (find : ℕ → ℕ → ℕ) → Finds S m a k find
       → (c r : ℕ) → c < S .b ^ a → r < S .b ^ (m - a) → hits S m a c r (run S m k) ≡ 1
-  pub part : (p n : ℕ) → take (S .b ^ m - p) (visits S (k * S .b ^ m + p) n) ≡ take n (drop p (run S m k))
+  pub run-from : (p n : ℕ) → take (S .b ^ m - p) (visits S (k * S .b ^ m + p) n) ≡ take n (drop p (run S m k))
 
 -- the visits that n steps give on a walk opened at the first index of block k, as far as they go into the block, are the run
 pub record WalkedRun (S : Sequence) (m k last count n : ℕ) : Type 0 where

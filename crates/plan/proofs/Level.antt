@@ -19,10 +19,10 @@ module _ (level : ℕ) where
   level-high l = sym (ap (λ (b : Bool). b || ltb largest-level level) (le-ltb level 1 l))
 
   pub level-known : Level level → unknown-level level .holds ≡ false
-  level-known known = ap₂ _||_ (le-ltb level 1 (known .positive)) (le-ltb largest-level level (known .known))
+  level-known known = ap₂ _||_ (le-ltb level 1 (known .positive)) (le-ltb largest-level level (known .not-above))
 
   -- and back
   pub level-of : unknown-level level .holds ≡ false → Level level
   level-of h =
       let (low, high) = both-false (ltb level 1) (ltb largest-level level) h in
-      record { positive = ltb-false level 1 low; known = ltb-false largest-level level high }
+      record { positive = ltb-false level 1 low; not-above = ltb-false largest-level level high }

@@ -43,7 +43,7 @@ unknown-level level = record { number = 2; holds = ltb level 1 || ltb largest-le
 -- and what it lets through
 pub record Level (level : ℕ) : Type 0 where
   pub positive : 1 ≤ level
-  pub known : level ≤ largest-level
+  pub not-above : level ≤ largest-level
 
 -- ---- the standard pair
 

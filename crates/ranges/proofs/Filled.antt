@@ -11,7 +11,7 @@ use lib.Seq.{take-suc-set, take-all, take-at, length-take-le}
 use Rattle.ranges.specs.Range.{range}
 use Rattle.ranges.proofs.Range.{each-suc, length-each, range-add}
 
--- as long as l, and in its first k places f of s, s + 1 and so on
+-- as long as l, and its first k elements are f of s, s + 1 and so on
 pub record Filled {A : Type 0} (f : ℕ → A) (s k : ℕ) (l buffer : List A) : Type 0 where
   pub long : length buffer ≡ length l
   pub front : take k buffer ≡ map f (range s k)

@@ -39,7 +39,7 @@ skip-inj (suc j) zero (suc b) e = absurd (omega arith)
 skip-inj (suc j) (suc a) zero e = absurd (omega arith)
 skip-inj (suc j) (suc a) (suc b) e = ap suc (skip-inj j a b (omega arith))
 
--- the position of k among the numbers other than j
+-- how many numbers other than j come before k
 unfoldable pub unskip : ℕ → ℕ → ℕ
 unskip zero k = pred k
 unskip (suc j) zero = zero

@@ -119,7 +119,7 @@ module _ {P : Plan} (valid : Valid (generators P)) {M : ℕ} (fits : M ≤ large
 module _ {P : Plan} (valid : Valid (generators P)) {s : Shift} (words : ShiftFits s) {level m a k c r : ℕ} (known : Level level)
     (cell : Cell level m a k c r) where
   shape : Shape (generators P) m a
-  shape = let size = cell .size in let top = known .known in record { valid = valid; wide = cell .wide; fits = omega arith }
+  shape = let size = cell .size in let top = known .not-above in record { valid = valid; wide = cell .wide; fits = omega arith }
 
   L : LocateDecides (generators P) (scrambling s) m a k c r
   L = net.theorems .located shape two (lawful s words) k c r (cell .column) (cell .row)
@@ -171,7 +171,7 @@ checked words below long {level} known = record {
 }
   where
     C : CheckDecides (generators (loaded words)) level
-    C = net.theorems .checked (valid-loaded words below long) two level (known .known)
+    C = net.theorems .checked (valid-loaded words below long) two level (known .not-above)
 
     is : check-outcome words level ≡ of-verdict (check (generators (loaded words)) level)
     is = check-outcome-is words level long known
@@ -192,7 +192,7 @@ lists P s = record {
 gives-run : (P : Plan) (s : Shift) (m k : ℕ) → GivesRun P s m k
 gives-run P s m k = record {
   points = refl;
-  fills = λ p xs ys e. ap (take (2 ^ m - p)) (filled-visits index-count S (k * 2 ^ m + p) xs ys e) ∙ net.theorems .runs S m k .part p (length xs);
+  fills = λ p xs ys e. ap (take (2 ^ m - p)) (filled-visits index-count S (k * 2 ^ m + p) xs ys e) ∙ net.theorems .runs S m k .run-from p (length xs);
   walks = λ count n w e.
       ap (λ (v : Walk). take (2 ^ m) (visits-walked S n v)) (opened index-count (k * 2 ^ m) count w e)
       ∙ net.theorems .walked-run S m k last-index count n (within index-count (k * 2 ^ m) count w e) .list;
@@ -217,10 +217,10 @@ accepts words below M e =
     record { valid = valid-loaded words below long; known = known; passes = checked words below long known .accepted-iff .0 e }
 
 accepted-covered : (words : List ℕ) → Below (2 ^ 32) words → (M : ℕ) → check-outcome words M ≡ accepted tt → Covered (loaded words) M
-accepted-covered words below M e = let a = accepts words below M e in covered (a .valid) (a .known .known) (a .passes)
+accepted-covered words below M e = let a = accepts words below M e in covered (a .valid) (a .known .not-above) (a .passes)
 
 accepted-related : (words : List ℕ) → Below (2 ^ 32) words → (M : ℕ) → check-outcome words M ≡ accepted tt → RelatedToPlain (loaded words) M
-accepted-related words below M e = let a = accepts words below M e in related (a .valid) (a .known .known) (a .passes)
+accepted-related words below M e = let a = accepts words below M e in related (a .valid) (a .known .not-above) (a .passes)
 
 -- ---- the standard pair
 

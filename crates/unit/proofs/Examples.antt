@@ -20,7 +20,7 @@ half-double : double 0x80000000 ≡ fin false 1 (negsuc 0)
 unfolding round odd
 half-double = refl
 
--- C-17: the words 0 and 1, with the numerator 2 * w + 1 and 33 places
+-- C-17: the words 0 and 1, with the numerator 2 * w + 1 and 33 binary digits
 odd-zero : lower-bits 33 1 ≡ 0x2F000000
 unfolding leadingZeros
 odd-zero = refl

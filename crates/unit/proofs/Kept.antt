@@ -97,7 +97,7 @@ shortfall {L} wide {v} below = record {
   value = single-value wide below;
   not-above = div-mul-le-self v (2 ^ cut L v);
   short = λ few. subst (λ (k : ℕ). k < 2 ^ cut L v) (rest v (2 ^ cut L v)) (mod-lt v (pow-pos (cut L v)));
-  whole = λ many. let none : cut L v ≡ 0 = omega arith in uncut v (cut L v) none;
+  nothing-lost = λ many. let none : cut L v ≡ 0 = omega arith in uncut v (cut L v) none;
 }
   where
     rest : (v n : ℕ) → v % n ≡ v - v / n * n

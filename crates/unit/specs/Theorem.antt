@@ -36,7 +36,7 @@ pub record Shortfall (L v : ℕ) (x : Float) : Type 0 where
   pub value : HasValue x false kept (2 ^ L)
   pub not-above : kept ≤ v
   pub short : leadingZeros L v < L - 24 → v - kept < 2 ^ (L - 24 - leadingZeros L v)
-  pub whole : L - 24 ≤ leadingZeros L v → kept ≡ v
+  pub nothing-lost : L - 24 ≤ leadingZeros L v → kept ≡ v
 
 -- the whole part of 2 ^ n * x is k: of the 2 ^ n equal strips from 0 to 1 (01's word; the field: elementary intervals of one axis), x lies
 -- in strip k

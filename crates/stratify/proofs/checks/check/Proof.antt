@@ -65,7 +65,7 @@ scan-requires c κs =
       words-valid (P .x) (P .y)
           (λ t. let f : Fits w32 (getD (P .x) t 0) = search needs in f .fits)
           (λ t. let f : Fits w32 (getD (P .y) t 0) = search needs in f .fits),
-      level-of _ (sym (c .before .before .before .before .before .unknown-level .ensures) ∙ c .before .before .before .before .if1 .left) .known,
+      level-of _ (sym (c .before .before .before .before .before .unknown-level .ensures) ∙ c .before .before .before .before .if1 .left) .not-above,
       c .certified-from .ensures,
     )
 

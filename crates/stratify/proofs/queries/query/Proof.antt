@@ -39,7 +39,7 @@ Passed n s =
 level-within : (c : tie.Else3) → c .before .before .before .before .args .level ≤ 32
 level-within c =
     let level = c .before .before .before .before .args .level in
-    level-of level (sym (c .before .before .before .unknown-level .ensures) ∙ c .before .before .if1 .left) .known
+    level-of level (sym (c .before .before .before .unknown-level .ensures) ∙ c .before .before .if1 .left) .not-above
 
 level-passed : (c : tie.Else1) → Passed 1 (c .before .before)
 level-passed c = first-passes (located (c .before .before)) 2 _ (sym (c .before .unknown-level .ensures) ∙ c .if1 .left)
