@@ -18,7 +18,7 @@ use Rattle.net.specs.Scrambling.{plain}
 use Rattle.net.specs.Shape.{Shape}
 use Rattle.net.specs.Sequence.{Least}
 use Rattle.net.specs.Elimination.{Additive, Choice, BasisEntry, serial, interval, reduce, solve, new-entry}
-use Rattle.net.specs.Elimination.{Eliminated, kernel, basis, eliminate, eliminate-shape}
+use Rattle.net.specs.Elimination.{Eliminated, in-kernel, basis, eliminate, eliminate-shape}
 use Rattle.net.specs.Answers.{Decided}
 use Rattle.net.proofs.Interval.{interval-pow, interval-additive}
 use Rattle.net.proofs.Elimination.{eliminate-ends, eliminate-stops, eliminate-goes-on}
@@ -109,9 +109,9 @@ module _ {L : ℕ → ℕ} (A : Additive 2 L) {m : ℕ} {words indexes : List �
   unfolding fs
   left-step = let k : m - c ≡ suc (m - suc c) = omega arith in going .left ∙ ap (λ (n : ℕ). eliminate 2 L choice n c fs) k
 
-  pub going-kernel : word ≡ 0 → eliminate 2 L choice m 0 [] ≡ kernel index
+  pub going-kernel : word ≡ 0 → eliminate 2 L choice m 0 [] ≡ in-kernel index
   unfolding e fs
-  going-kernel z = left-step ∙ eliminate-stops L choice c fs (m - suc c) (image-is ∙ z) ∙ ap kernel (sym index-is)
+  going-kernel z = left-step ∙ eliminate-stops L choice c fs (m - suc c) (image-is ∙ z) ∙ ap in-kernel (sym index-is)
 
   pub going-more : word ≢ 0 → c < 32 → Going L m (set words c word) (set indexes c index) (c + 1)
   unfolding entries e fs
@@ -187,7 +187,7 @@ module _ {L : ℕ → ℕ} (A : Additive 2 L) {m asked c : ℕ} {rest moved : Li
   here : Sweeps (now .words) (now .indexes) c (L (2 ^ c)) (2 ^ c) (getD rest c 0) (getD moved c 0)
   here = now .columns c (le-refl c) inside
 
-  pub pending-kernel : getD rest c 0 ≡ 0 → eliminate 2 L choice m 0 [] ≡ kernel (getD moved c 0)
+  pub pending-kernel : getD rest c 0 ≡ 0 → eliminate 2 L choice m 0 [] ≡ in-kernel (getD moved c 0)
   pending-kernel = going-kernel A (now .going) inside (getD rest c 0) (getD moved c 0) here
 
   -- a word that is cleared is swept by one entry more
@@ -225,9 +225,9 @@ module _ {x y : List ℕ} {m a : ℕ} (shape : Shape (pair x y) m a) where
   unfolding eliminate-shape
   meant o e = subst (Decided (pair x y) m a) e (eliminated shape two choice)
 
-  pub eliminates-kernel : (asked index j : ℕ) → eliminate 2 L choice m 0 [] ≡ kernel j → Eliminates (pair x y) m a asked j index
+  pub eliminates-kernel : (asked index j : ℕ) → eliminate 2 L choice m 0 [] ≡ in-kernel j → Eliminates (pair x y) m a asked j index
   eliminates-kernel asked index j e =
-      let least : Least (plain (pair x y)) m a j = meant (kernel j) e .least in
+      let least : Least (plain (pair x y)) m a j = meant (in-kernel j) e .least in
       let positive = least .positive in
       record { least = λ n. least; found = λ z. absurd (omega arith) }
 

@@ -10,7 +10,7 @@ use Rattle.net.specs.Generators.{Generators}
 use Rattle.net.specs.Sequence.{Sequence, Finds, Apart, Least}
 use Rattle.net.specs.Scrambling.{plain, shifted}
 use Rattle.net.specs.Shape.{Shape}
-use Rattle.net.specs.Elimination.{serial, interval, Choice, BasisEntry, solve, Eliminated, kernel, basis, eliminate-shape, basis-index}
+use Rattle.net.specs.Elimination.{serial, interval, Choice, BasisEntry, solve, Eliminated, in-kernel, basis, eliminate-shape, basis-index}
 use Rattle.net.specs.Answers.{Solved, Decided}
 use Rattle.net.proofs.Scrambling.{unshifted}
 use Rattle.net.proofs.Interval.{interval-additive, interval-lt, interval-of-share, share-of-interval, interval-zero}
@@ -56,7 +56,7 @@ module _ {G : Generators} {m a : ℕ} (shape : Shape G m a) (prime : Prime (G .b
       origin = interval-zero shape
 
       read : (o : Eliminated) → Sound b (interval (plain G) m a) m o → Decided G m a o
-      read (kernel j) (below, s) =
+      read (in-kernel j) (below, s) =
           let least : Least (plain G) m a j = record {
             positive = s .positive;
             below = below;

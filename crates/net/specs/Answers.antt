@@ -10,7 +10,7 @@ use Rattle.net.specs.Scrambling.{Scrambling, plain, digital, shifted}
 use Rattle.net.specs.Shape.{determinant, Passes}
 use Rattle.net.specs.Check.{check, passed, first-bad, FirstCrowded, FirstZero}
 use Rattle.net.specs.Query.{locate, found, bad-shape}
-use Rattle.net.specs.Elimination.{BasisEntry, Eliminated, kernel, basis, basis-index}
+use Rattle.net.specs.Elimination.{BasisEntry, Eliminated, in-kernel, basis, basis-index}
 
 -- The check passes exactly what passes, and names a bad shape exactly where a determinant of a size within the level is 0, exactly where
 -- an interval of such a size holds two plain visits. The shape that it names is the first in both readings, and j the least.
@@ -41,5 +41,5 @@ pub record Unsolved (G : Generators) (m a j : ℕ) : Type 0 where
 
 -- what an outcome of elimination means
 abbrev pub Decided : Generators → ℕ → ℕ → Eliminated → Type 0
-Decided G m a (kernel j) = Unsolved G m a j
+Decided G m a (in-kernel j) = Unsolved G m a j
 Decided G m a (basis fs) = Solved G m a fs

@@ -11,7 +11,7 @@ use Rattle.visits.specs.declared.file_walks.FileStep.{FileStep}
 use Rattle.visits.specs.declared.file_walks.FileStep.the-variants as step
 use Rattle.visits.specs.Visits.{file-visits}
 use Rattle.visits.specs.FileWalk.{visits-to-come, Gives}
-use Rattle.visits.specs.Theorem.{Steps, none, more, file-answers, Theorems}
+use Rattle.visits.specs.Theorem.{Steps, no-step, first-step, file-answers, Theorems}
 use Rattle.visits.proofs.FileVisits.{visit-iff, once}
 
 -- the first answer and the others
@@ -25,8 +25,8 @@ first-then file p q step.Ended ss g e =
 
 steps : (file : List ℕ) (p q : FileWalk) (ss : List FileStep) → Steps file p ss q → ss ≡ file-answers (length ss) (visits-to-come file p)
 unfolding file-answers
-steps file p q ss (none _) = refl
-steps file p q ss (more _ r _ s others g run) = first-then file p r s others g (steps file r q others run)
+steps file p q ss (no-step _) = refl
+steps file p q ss (first-step _ r _ s others g run) = first-then file p r s others g (steps file r q others run)
 
 pub theorems : Theorems
 theorems = record {

@@ -22,8 +22,8 @@ use Rattle.visits.specs.FileWalk.{visits-to-come, Gives, of-opened-file}
 
 -- steps one after the other, each from the walk that the one before handed back
 pub data Steps (file : List ℕ) : FileWalk → List FileStep → FileWalk → Type 0 where
-  none : (p : FileWalk) → Steps file p [] p
-  more : (p q r : FileWalk) (s : FileStep) (ss : List FileStep) → Gives file p s q → Steps file q ss r → Steps file p (s ∷ ss) r
+  no-step : (p : FileWalk) → Steps file p [] p
+  first-step : (p q r : FileWalk) (s : FileStep) (ss : List FileStep) → Gives file p s q → Steps file q ss r → Steps file p (s ∷ ss) r
 
 -- what n steps give where these visits are to come: the visits, and the end in every step after them
 unfoldable pub file-answers : ℕ → List FileVisit → List FileStep
