@@ -18,8 +18,8 @@ fn main() {
     queries();
     single::fills();
     single::walks();
-    units::units();
-    positions::visits();
+    unit_numbers();
+    visits();
     positions::positions();
     units::steps();
     files::files();
@@ -56,4 +56,16 @@ fn queries() {
     lines(Section::Largest, 33);
     single::queries();
     single::queries_in_order();
+}
+
+fn unit_numbers() {
+    print::text(b"units\n");
+    lines(Section::Units, 97);
+}
+
+fn visits() {
+    print::text(b"visits -500 0 1000 800 0 0\n");
+    lines(Section::FirstVisits, 1024);
+    print::text(b"visits -1000000 1000000 1000000 999983 305419896 2596069104\n");
+    lines(Section::SecondVisits, 1024);
 }

@@ -1,6 +1,4 @@
 // Positions in regions: of the first visits of the standard pair with their singles, and of single words.
-use crate::lines::Section;
-use crate::lines::lines;
 use crate::pairs;
 use crate::print;
 use crate::units::singles_line;
@@ -47,13 +45,6 @@ pub fn second_visit_line(index: u32) {
         height: 999983,
     };
     visit_line(region, pairs::first_shift(), index);
-}
-
-pub fn visits() {
-    print::text(b"visits -500 0 1000 800 0 0\n");
-    lines(Section::FirstVisits, 1024);
-    print::text(b"visits -1000000 1000000 1000000 999983 305419896 2596069104\n");
-    lines(Section::SecondVisits, 1024);
 }
 
 fn position_line(left: i32, top: i32, width: u32, height: u32, x: u32, y: u32) {

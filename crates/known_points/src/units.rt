@@ -1,6 +1,4 @@
 // Unit numbers and singles, by their bits: the words about each power of two, and the last steps of a walk.
-use crate::lines::Section;
-use crate::lines::lines;
 use crate::pairs;
 use crate::print;
 use plan::Opened;
@@ -45,11 +43,6 @@ pub fn unit_line(i: u32) {
     print::number(word);
     print::wide_number(bits(unit::coordinate(word, Precision::Single)), b' ');
     print::wide_number(bits(unit::coordinate(word, Precision::Double)), b'\n');
-}
-
-pub fn units() {
-    print::text(b"units\n");
-    lines(Section::Units, 97);
 }
 
 // One step: prints the visit or the end, and hands back the walk after it.
