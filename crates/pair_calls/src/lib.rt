@@ -1,7 +1,6 @@
 // Calls with a pair given as 64 words, by value: the words that C lends come in as numbers and go out in a struct, with the answer's
 // number. The crate vektrid stores them. Every call takes any words, and refuses what is no pair before all else.
 mod checks;
-mod fills;
 mod pairs;
 mod points;
 mod queries;
@@ -9,7 +8,8 @@ mod steps;
 
 pub use checks::CheckAnswer;
 pub use checks::check;
-pub use fills::fill;
+pub use pairs::pair_answer;
+pub use pairs::pair_plan;
 pub use pairs::write_standard;
 pub use points::PointAnswer;
 pub use points::SinglesAnswer;

@@ -12,7 +12,7 @@ ghost use Rattle.answers.specs.Answers.{answer-number};
 ghost use Rattle.pair_calls.specs.Calls.{standard-words};
 
 // 0, or 1 where the words are no pair.
-pub(crate) fn pair_answer(words: &[u32]) -> u32
+pub fn pair_answer(words: &[u32]) -> u32
     ensures { λ r. ⌜ r ≡ answer-number (load-outcome (now (words .entry))) ⌝ }
 {
     if words.len() == PAIR_WORDS {
@@ -23,7 +23,7 @@ pub(crate) fn pair_answer(words: &[u32]) -> u32
 }
 
 // The matrices of a pair, without the judgement: `pair_answer` has given it, and a call that carries both is slower.
-pub(crate) fn pair_plan(words: &[u32]) -> Plan
+pub fn pair_plan(words: &[u32]) -> Plan
     ensures { λ r. ⌜ r ≡ loaded (now (words .entry)) ⌝ }
 {
     let loaded = Plan::load(words);

@@ -1,4 +1,8 @@
 // Fills of two lent buffers.
+use answers::number_of;
+use pair_calls::pair_answer;
+use pair_calls::pair_plan;
+use plan::Shift;
 use word::Index;
 ghost use mathlib.Core.Path.{_≡_};
 ghost use Rattle.answers.specs.Answers.{answer-number};
@@ -18,5 +22,20 @@ pub extern "C" fn vektrid_fill(
     ensures xs { λ _. ⌜ now (xs .exit) ≡ pair-filled (now (words .entry)) «shift_x» «shift_y» start (now (xs .entry)) (now (ys .entry)) .x ⌝ }
     ensures ys { λ _. ⌜ now (ys .exit) ≡ pair-filled (now (words .entry)) «shift_x» «shift_y» start (now (xs .entry)) (now (ys .entry)) .y ⌝ }
 {
-    pair_calls::fill(words, shift_x, shift_y, start, xs, ys)
+    let answer = pair_answer(words);
+    if answer != 0 {
+        return answer;
+    }
+    let plan = pair_plan(words);
+    let filled = plan::fill(
+        plan,
+        Shift {
+            x: shift_x,
+            y: shift_y,
+        },
+        start,
+        xs,
+        ys,
+    );
+    number_of(filled)
 }

@@ -1,4 +1,4 @@
--- `fills::fill`: once the pair is loaded, the answer and the buffers are those of the fill (`answered`, `buffer`).
+-- `fills::vektrid_fill`: once the pair is loaded, the answer and the buffers are those of the fill (`answered`, `buffer`).
 -- Assumes nothing.
 use mathlib.Core.Path.{_≡_, sym, ap, _∙_}
 use mathlib.Core.List.{List}
@@ -12,10 +12,10 @@ use Rattle.plan.specs.Pair.{sequence, load-outcome, loaded}
 use Rattle.plan.specs.Fill.{Buffers, fill-outcome, filled}
 use Rattle.answers.specs.Answers.{answer-number}
 use Rattle.answers.proofs.Outcomes.{refused-answer}
 use Rattle.pair_calls.specs.Calls.{pair-filled}
 use Rattle.pair_calls.proofs.Loading.{load-refused, load-accepted, stops, goes-on}
-use Rattle.pair_calls.proofs.fills.fill.Statement.{statement}
-use Rattle.pair_calls.proofs.fills.fill.Tie as tie
+use Rattle.vektrid.proofs.fills.vektrid_fill.Statement.{statement}
+use Rattle.vektrid.proofs.fills.vektrid_fill.Tie as tie
 
 -- the number of what the fill came to is the number of what the call comes to
 answered : (words : List ℕ) (fill : Outcome Unit) {n : ℕ} → n ≡ answer-number (load-outcome words) → n ≡ 0 → {o : Outcome Unit} → o ≡ fill
@@ -71,8 +71,8 @@ returns-2 c =
       ),
     )
 
-pub fill-spec : {M : Type 1} → statement M
-fill-spec =
+pub vektrid-fill-spec : {M : Type 1} → statement M
+vektrid-fill-spec =
     tie.close
     (tie.spec
     pair-answer-requires
