@@ -1,19 +1,16 @@
 -- The only index of a block in an interval is what the search for it finds. Assumes nothing.
-use mathlib.Core.Path.{_≡_, refl, ap, _∙_}
-use mathlib.Core.Bool.{Bool, true, false, _&&_}
+use mathlib.Core.Path.{_≡_, ap, _∙_}
+use mathlib.Core.Bool.{Bool, true}
 use Prim.Native.Nat.{ℕ, _+_, _-_, _*_, _^_, _≤_}
 use native.Mathlib.Omega.{arith}
 use borrow.Author.Tests.{eqb-true, eq-eqb}
 use lib.Dec.{eqb}
 use Rattle.ranges.specs.Unique.{Only}
 use Rattle.ranges.specs.Search.{search}
-use Rattle.ranges.proofs.Search.{search-found, clash, search-le}
+use Rattle.ranges.proofs.Tests.{both-hold}
+use Rattle.ranges.proofs.Search.{search-found, search-le}
 use Rattle.net.specs.Sequence.{Sequence, column, row, VisitIn, lies}
 use Rattle.net.specs.Query.{visit-index}
-
-both : (s t : Bool) → s && t ≡ true → (s ≡ true) × (t ≡ true)
-both true t e = (refl, e)
-both false t e = absurd (clash e refl)
 
 module _ (S : Sequence) (m a c r : ℕ) where
   pub lies-of : (i : ℕ) → column S a i ≡ c → row S (m - a) i ≡ r → lies S m a c r i ≡ true
@@ -21,7 +18,7 @@ module _ (S : Sequence) (m a c r : ℕ) where
 
   pub of-lies : (i : ℕ) → lies S m a c r i ≡ true → (column S a i ≡ c) × (row S (m - a) i ≡ r)
   of-lies i e =
-      let (p, q) = both (eqb (column S a i) c) (eqb (row S (m - a) i) r) e in
+      let (p, q) = both-hold (eqb (column S a i) c) (eqb (row S (m - a) i) r) e in
       (eqb-true (column S a i) c p, eqb-true (row S (m - a) i) r q)
 
   -- the only index of the block is what the search finds

@@ -1,4 +1,5 @@
 pub mod Order
+pub mod Tests
 pub mod Below
 pub mod Search
 pub mod Range

@@ -10,10 +10,10 @@ use native.Mathlib.Nat.{lt-irrefl}
 use native.Mathlib.Omega.{arith}
 use borrow.Author.Tests.{eq-eqb, ne-eqb, eqb-true, eqb-false, leb-false, ltb-false, not-true, not-false}
 use lib.Dec.{eqb, leb, ltb}
+use Rattle.ranges.proofs.Tests.{both-hold}
 use Rattle.refusal.specs.Outcome.{Outcome, accepted, refused, Test, first}
 use Rattle.refusal.proofs.First.{accepted-refused, AllPass, all-pass, refused-before, passed-before}
 use Rattle.stage.specs.Region.{within}
-use Rattle.stage.proofs.Limits.{both}
 use Rattle.region_file.specs.declared.fields.Record.{Record}
 use Rattle.region_file.specs.Fields.{record-bytes, most-bytes, record-at, first-record, record-count, most-records}
 use Rattle.region_file.specs.Judge.{whole, head-tests, most-visits, link-tests, link-outcome, nowhere, also, chain-outcome, judge-outcome}
@@ -92,8 +92,8 @@ pub record Whole (bytes : ℕ) : Type 0 where
 pub whole-has : (bytes : ℕ) → whole bytes ≡ true → Whole bytes
 unfolding whole
 whole-has bytes e =
-    let one = both _ _ e in
-    let two = both _ _ (one .1) in
+    let one = both-hold _ _ e in
+    let two = both-hold _ _ (one .1) in
     let some = eqb-false bytes 0 (not-true _ (one .0)) in
     record { some = omega (arith, some); most = ltb-false most-bytes bytes (not-true _ (two .0)); even = eqb-true (bytes % record-bytes) 0 (two .1) }
 

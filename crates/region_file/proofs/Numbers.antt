@@ -2,7 +2,7 @@
 -- that its records pass their tests, and that it has no more numbers than links were followed.
 -- Assumes nothing.
 use mathlib.Core.Path.{_≡_, refl, sym, ap, _∙_, subst}
-use mathlib.Core.Bool.{Bool, true, false, _||_, true≢false}
+use mathlib.Core.Bool.{Bool, true, false, _||_, true≢false, or-true}
 use mathlib.Core.List.{List}
 use mathlib.Core.Logic.{_⊎_, inl, inr, _≢_}
 use Prim.Native.Nat.{ℕ, zero, suc, _+_, _-_, _≤_, _<_}
@@ -18,10 +18,6 @@ use Rattle.region_file.specs.Chain.{numbers, member}
 use Rattle.region_file.specs.Judge.{nowhere, also, chain-outcome}
 use Rattle.region_file.specs.Theorem.{WholeChain}
 use Rattle.region_file.proofs.Chain.{Sound, Linked, linked, chain-some, judged-chain}
-
-or-true : (a : Bool) {b : Bool} → b ≡ true → (a || b) ≡ true
-or-true true e = refl
-or-true false e = e
 
 module _ (file : List ℕ) (k : ℕ) where
   pub member-none : (links n : ℕ) → links ≤ 0 → member k (numbers file links n) ≡ false
@@ -46,7 +42,7 @@ module _ (file : List ℕ) (k : ℕ) where
   pub member-later : (links n : ℕ) → (n ≡ 0 → ⊥) → member k (numbers file links (record-at file n .next)) ≡ true
       → member k (numbers file (suc links) n) ≡ true
   unfolding numbers member
-  member-later links n ne m = simp (ne-eqb n 0 ne) (or-true (eqb n k) m)
+  member-later links n ne m = simp (ne-eqb n 0 ne) (ap (λ (b : Bool). eqb n k || b) m ∙ or-true (eqb n k))
 
   -- the same for a number of links that is not 0, as the code counts them
   module _ (links n : ℕ) (some : 0 < links) (ne : n ≡ 0 → ⊥) where
@@ -81,7 +77,7 @@ module _ (further : Record → List Test) (file : List ℕ) (k : ℕ) where
       go (inl e) more = member-end file k (suc links) n e
       go (inr l) more =
           let other : n ≡ k → ⊥ = λ e. true≢false (sym seen ∙ ap v (sym e) ∙ l .link .fresh) in
-          let still : also n v k ≡ true = or-true (eqb k n) seen in
+          let still : also n v k ≡ true = ap (λ (b : Bool). eqb k n || b) seen ∙ or-true (eqb k n) in
           member-rest file k links n (l .some) other ∙ more (also n v) (record-at file n .next) (l .rest) still
 
   -- each of its numbers names a record that passes

@@ -1,7 +1,7 @@
 -- The limits of a region, one by one, and edges and positions as the machine reads them back.
 -- Assumes nothing.
-use mathlib.Core.Path.{_≡_, refl, sym, ap, _∙_}
-use mathlib.Core.Bool.{Bool, true, false, _&&_, not, true≢false}
+use mathlib.Core.Path.{_≡_, sym, ap, _∙_}
+use mathlib.Core.Bool.{Bool, true, not}
 use Prim.Native.Nat.{ℕ, _≤_, _<_}
 use borrow.Author.Tests.{ltb-false, not-true}
 use lib.Dec.{ltb}
@@ -9,6 +9,7 @@ use lib.IntN.{ℤ}
 use mir.Syntax.{w32}
 use mir.Val.{SFits, ofZ, toZ}
 use mir.ValLaws.{toZ-ofZ}
+use Rattle.ranges.proofs.Tests.{both-hold}
 use Rattle.stage.specs.declared.regions.Region.{Region}
 use Rattle.stage.specs.Position.{edge-within, extent-within, position, largest-extent}
 use Rattle.stage.specs.Region.{within}
@@ -27,16 +28,11 @@ pub position-told : {z : ℤ} (e : ℤ) (x w : ℕ) → SFits w32 e → SFits w3
     → toZ w32 (ofZ w32 z) ≡ position e x w
 position-told {z} e x w f g p = toZ-ofZ w32 z g ∙ p ∙ ap (λ (y : ℤ). position y x w) (toZ-ofZ w32 e f)
 
--- a conjunction holds of each part
-pub both : (a b : Bool) → (a && b) ≡ true → (a ≡ true) × (b ≡ true)
-both true b e = (refl, e)
-both false b e = absurd (true≢false (sym e))
-
 extent-some : (x : ℕ) → extent-within x ≡ true → 0 < x
-extent-some x e = ltb-false x 1 (not-true _ (both (not (ltb x 1)) (not (ltb largest-extent x)) e .0))
+extent-some x e = ltb-false x 1 (not-true _ (both-hold (not (ltb x 1)) (not (ltb largest-extent x)) e .0))
 
 extent-most : (x : ℕ) → extent-within x ≡ true → x ≤ largest-extent
-extent-most x e = ltb-false largest-extent x (not-true _ (both (not (ltb x 1)) (not (ltb largest-extent x)) e .1))
+extent-most x e = ltb-false largest-extent x (not-true _ (both-hold (not (ltb x 1)) (not (ltb largest-extent x)) e .1))
 
 pub record Within (r : Region) : Type 0 where
   pub left : edge-within (r .left) ≡ true
@@ -49,9 +45,9 @@ pub record Within (r : Region) : Type 0 where
 pub within-has : (r : Region) → within r ≡ true → Within r
 unfolding within
 within-has r e =
-    let first = both _ _ e in
-    let second = both _ _ (first .0) in
-    let third = both _ _ (second .0) in
+    let first = both-hold _ _ e in
+    let second = both-hold _ _ (first .0) in
+    let third = both-hold _ _ (second .0) in
     record {
       left = third .0;
       top = third .1;

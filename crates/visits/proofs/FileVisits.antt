@@ -2,7 +2,7 @@
 -- The chain names no record twice, and a record's visits have the indexes of a range.
 -- Assumes nothing.
 use mathlib.Core.Path.{_≡_, refl, sym, ap, ap₂, _∙_, subst}
-use mathlib.Core.Bool.{Bool, true, false, cond, not, _&&_, _||_, true≢false}
+use mathlib.Core.Bool.{Bool, true, false, cond, not, _&&_, _||_}
 use mathlib.Core.List.{List, [], _∷_, _++_, append-nil}
 use mathlib.Core.Logic.{_⊎_, inl, inr, _↔_}
 use Prim.Native.Nat.{ℕ, zero, suc, _+_, _≤_, _<_}
@@ -10,6 +10,7 @@ use native.Mathlib.Omega.{arith}
 use borrow.Author.Tests.{eq-eqb, ne-eqb, eqb-true, eqb-false, lt-ltb, ltb-true, ltb-false}
 use lib.Dec.{eqb, ltb}
 use Rattle.ranges.specs.Range.{range}
+use Rattle.ranges.proofs.Tests.{both-hold}
 use Rattle.refusal.specs.Outcome.{accepted, Test}
 use Rattle.refusal.proofs.First.{first-none, first-passes}
 use Rattle.stage.specs.declared.regions.Position.{Position}
@@ -147,10 +148,6 @@ once further file e n i = chain-once further file n i most-records nowhere (firs
 
 -- ---- one visit
 
-both-true : (a : Bool) {b : Bool} → (a && b) ≡ true → (a ≡ true) × (b ≡ true)
-both-true true e = (refl, e)
-both-true false e = absurd (true≢false (sym e))
-
 -- a visit is among those that have its own record number and index, and these are among all
 among-own : (v : FileVisit) (vs : List FileVisit) → Among v vs → Among v (visits-at (v .number) (v .index) vs)
 unfolding visits-at
@@ -195,7 +192,7 @@ module _ (further : Record → List Test) (file : List ℕ) (e : judge-outcome f
     where
       go : (b : Bool) → (on-chain file (v .number) && ltb (v .index) (owned .count)) ≡ b → Among v (cond b (itself ∷ []) []) → VisitOf file v
       go true t (inl same) =
-          let p = both-true (on-chain file (v .number)) t in
+          let p = both-hold (on-chain file (v .number)) (ltb (v .index) (owned .count)) t in
           let sound = member-sound further file (v .number) most-records nowhere (first-record file) (judged-chain further file e) (p .0) in
           record {
             chained = p .0;
