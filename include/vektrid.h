@@ -2,7 +2,7 @@
  *
  * Every call answers any numbers; none traps, prints or keeps anything. An answer of type uint32_t is 0, or the number of a refusal in
  * document 01's table (enum vektrid_refusal); a refused call leaves every lent word and buffer as it was, but for the values that
- * refusal 3 gives. What the proofs ask of the caller, since C cannot say it: no pointer is null (not even with a length of 0), each points to
+ * refusal 3 gives, and where vektrid_judge_link stopped. What the proofs ask of the caller, since C cannot say it: no pointer is null (not even with a length of 0), each points to
  * aligned memory of its type, each buffer has the length given beside it, and what one call writes does not overlap anything else that is
  * lent to that call.
  *
@@ -21,19 +21,24 @@
 extern "C" {
 #endif
 
-enum vektrid_refusal {
+/* The number of this interface. It goes up with every change of a call, a lent struct or an answer, and with every new call, so that a program
+ * compiled with this header can tell whether it runs with the library that belongs to it: vektrid_abi() == VEKTRID_ABI. */
+#define VEKTRID_ABI 1
+uint32_t vektrid_abi(void);
+
+enum vektrid_refusal { /* docs/REFUSALS.md says exactly when each is given */
     VEKTRID_ACCEPTED = 0,
     VEKTRID_WORD_COUNT = 1,      /* a pair is not 64 words */
     VEKTRID_LEVEL = 2,           /* a level is not 1 to 32 */
-    VEKTRID_NOT_NET = 3,         /* not a net: the shape (m, a), and j, the least index above 0 in the cell of index 0 */
+    VEKTRID_NOT_NET = 3,         /* not a net */
     VEKTRID_SIZE = 4,            /* m is above the level */
     VEKTRID_SHAPE = 5,           /* a is above m */
-    VEKTRID_CELL = 6,            /* column >= 2^a, or row >= 2^(m-a) */
-    VEKTRID_BLOCK = 7,           /* block >= 2^(32-m) */
+    VEKTRID_CELL = 6,            /* the column or the row is outside the shape */
+    VEKTRID_BLOCK = 7,           /* the block lies beyond the last index */
     VEKTRID_BUFFER_LENGTHS = 8,  /* two buffers differ in length */
     VEKTRID_INDEX_RANGE = 9,     /* start + count is above 2^32 */
     VEKTRID_REGION = 10,         /* an edge or an extent of a region is outside its limits */
-    VEKTRID_FILE_LENGTH = 11,    /* a file is empty, over 65,536 bytes, or not whole records */
+    VEKTRID_FILE_LENGTH = 11,    /* a file is empty, over 65,536 bytes, or not whole records of 32 bytes */
     VEKTRID_RESERVED_BYTES = 12, /* bytes 8 to 31 of record 0 are not all zero */
     VEKTRID_MISSING_RECORD = 13, /* the chain names a record that the file lacks */
     VEKTRID_CHAIN_RETURNS = 14,  /* the chain returns to a record */
@@ -117,6 +122,10 @@ typedef struct vektrid_cursor {
 
 /* Judges a whole file: 0, or the first refusal that applies, in the order 11, 2, 12, and then at each link of the chain 13, 14, 10, 15. */
 uint32_t vektrid_judge(const uint8_t *file, size_t size);
+
+/* The same judgement, and of a refused file also where it stopped: *holder is the record that holds the link at which it stopped, *named the
+ * number that this link names. Both are 0 for 11, 2 and 12, which concern no link. Where the file is accepted both keep what they held. */
+uint32_t vektrid_judge_link(const uint8_t *file, size_t size, uint32_t *holder, uint32_t *named);
 
 /* The walk before the first visit of a file: 0, or the refusal of the file as vektrid_judge gives it. */
 uint32_t vektrid_file_walk_open(const uint8_t *file, size_t size, vektrid_file_walk *walk);
