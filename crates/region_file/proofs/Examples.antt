@@ -4,10 +4,11 @@ use mathlib.Core.Path.{_≡_, refl}
 use mathlib.Core.List.{List, [], _∷_, _++_}
 use Prim.Native.Nat.{ℕ, _/_, _%_}
 use lib.ListN.{replicate, take}
-use Rattle.refusal.specs.Outcome.{Outcome, accepted, refused, first}
+use Rattle.refusal.specs.Outcome.{Outcome, accepted, refused, first, granted}
 use Rattle.stage.specs.Region.{within}
 use Rattle.region_file.specs.Fields.{word-at, record-at, zeros}
-use Rattle.region_file.specs.Judge.{whole, chain-outcome, judge-outcome, no-further-tests}
+use Rattle.region_file.specs.Chain.{no-link}
+use Rattle.region_file.specs.Judge.{whole, chain-outcome, judge-outcome, chain-stop, judge-stop, no-further-tests}
 
 -- words as bytes, the lowest first
 unfoldable bytes : List ℕ → List ℕ
@@ -40,6 +41,18 @@ record Judged : Type 0 where
   -- a link is judged whole before the next, and 10 before 15
   count-before-next : judged (file-of 1 2 (one 5 1000 4097)) ≡ refused 15 []
   region-before-count : judged (file-of 1 2 (one 0 0 4097)) ≡ refused 10 []
+
+-- the link at which each judgement stops: where one is refused, and at the end of a chain that is accepted
+record Stopped : Type 0 where
+  next-5 : judge-stop no-further-tests (file-of 1 2 (one 5 1000 4)) ≡ record { holder = 1; named = 5 }
+  next-itself : judge-stop no-further-tests (file-of 1 2 (one 1 1000 4)) ≡ record { holder = 1; named = 1 }
+  count-4097 : judge-stop no-further-tests (file-of 1 2 (one 0 1000 4097)) ≡ record { holder = 0; named = 1 }
+  level-33 : judge-stop no-further-tests (file-of 1 33 (one 0 1000 4)) ≡ no-link
+  end : judge-stop no-further-tests (file-of 1 2 (one 0 1000 4)) ≡ record { holder = 1; named = 0 }
+
+stopped : Stopped
+unfolding bytes file-of one judge-stop granted first whole zeros chain-stop record-at word-at within
+stopped = record { next-5 = refl; next-itself = refl; count-4097 = refl; level-33 = refl; end = refl }
 
 examples : Judged
 unfolding bytes file-of one judge-outcome first whole zeros chain-outcome record-at word-at within

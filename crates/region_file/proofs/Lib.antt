@@ -1,8 +1,10 @@
 pub mod Zeros
 pub mod Marks
 pub mod Chain
+pub mod Stop
 pub mod Numbers
 pub mod Ends
+pub mod Stops
 pub mod OnChain
 pub mod Further
 pub mod Theorem

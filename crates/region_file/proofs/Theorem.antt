@@ -3,8 +3,15 @@
 use Rattle.region_file.specs.Theorem.{Theorems}
 use Rattle.region_file.proofs.Numbers.{whole-chain}
 use Rattle.region_file.proofs.Ends.{chains-end}
+use Rattle.region_file.proofs.Stops.{stops}
 use Rattle.region_file.proofs.OnChain.{only-the-chain}
 use Rattle.region_file.proofs.Further.{further-tests}
 
 pub theorems : Theorems
-theorems = record { chains-end = chains-end; whole-chain = whole-chain; only-the-chain = only-the-chain; further-tests = further-tests }
+theorems = record {
+  chains-end = chains-end;
+  whole-chain = whole-chain;
+  only-the-chain = only-the-chain;
+  further-tests = further-tests;
+  stops = stops;
+}

@@ -4,11 +4,13 @@ use mathlib.Core.List.{List, [], _∷_}
 use Prim.Native.Nat.{ℕ, zero, suc, _%_}
 use lib.Dec.{eqb, leb, ltb}
 use lib.ListN.{length}
-use Rattle.refusal.specs.Outcome.{Outcome, accepted, refused, Test, first}
+use Rattle.refusal.specs.Outcome.{Outcome, accepted, refused, Test, first, granted}
 use Rattle.plan.specs.Pair.{unknown-level}
 use Rattle.stage.specs.Region.{outside}
 use Rattle.region_file.specs.declared.fields.Record.{Record}
+use Rattle.region_file.specs.declared.chains.Link.{Link}
 use Rattle.region_file.specs.Fields.{record-bytes, record-at, first-record, file-level, reserved-zero, record-count, most-bytes, most-records}
+use Rattle.region_file.specs.Chain.{first-link, link-in, no-link}
 
 -- not empty, not longer than the longest file, and whole records
 unfoldable pub whole : ℕ → Bool
@@ -56,6 +58,9 @@ abbrev pub link-tests : (Record → List Test) → List ℕ → Bool → ℕ →
 link-tests further file seen n = missing file n ∷ returning seen ∷ record-tests further (record-at file n)
 
 -- what each list of tests comes to by itself
+abbrev pub head-outcome : List ℕ → Outcome Unit
+head-outcome file = first (head-tests file) (accepted tt)
+
 abbrev pub further-outcome : (Record → List Test) → Record → Outcome Unit
 further-outcome further r = first (further r) (accepted tt)
 
@@ -84,3 +89,18 @@ chain-outcome further file (suc links) visited n =
 -- the judgement of the whole file
 unfoldable pub judge-outcome : (Record → List Test) → List ℕ → Outcome Unit
 judge-outcome further file = first (head-tests file) (chain-outcome further file most-records nowhere (first-record file))
+
+-- ---- where it stops
+
+-- the link at which the judgement of the links from `at` on stops: the first that is refused, or the one that ends the chain
+unfoldable pub chain-stop : (Record → List Test) → List ℕ → ℕ → (ℕ → Bool) → Link → Link
+chain-stop further file zero visited at = at
+chain-stop further file (suc links) visited at =
+    let n = at .named in
+    cond (eqb n 0) at
+    (granted (link-outcome further file (visited n) n) (chain-stop further file links (also n visited) (link-in file n)) at)
+
+-- that of the whole file: none where the tests of the file and its record 0 refuse it
+unfoldable pub judge-stop : (Record → List Test) → List ℕ → Link
+judge-stop further file =
+    granted (head-outcome file) (chain-stop further file most-records nowhere (first-link file)) no-link

@@ -1,16 +1,29 @@
--- What users rely on: every chain ends within the number of links that its judgement looks at, nothing off the chain is looked at, and a
--- loader with further tests accepts the files of the listing whose records pass them. All this holds for every list of further tests.
+-- What users rely on: every chain ends within the number of links that its judgement looks at, nothing off the chain is looked at, a loader
+-- with further tests accepts the files of the listing whose records pass them, and a judgement stops at the first link that does not pass.
+-- All this holds for every list of further tests.
 use mathlib.Core.Path.{_≡_}
-use mathlib.Core.Bool.{true}
+use mathlib.Core.Bool.{Bool, true, cond}
 use mathlib.Core.List.{List}
 use mathlib.Core.Logic.{_↔_}
-use Prim.Native.Nat.{ℕ, _≤_}
+use Prim.Native.Nat.{ℕ, zero, suc, _≤_, _<_}
+use lib.Dec.{eqb}
 use lib.ListN.{length}
-use Rattle.refusal.specs.Outcome.{accepted, Test}
+use Rattle.refusal.specs.Outcome.{Outcome, accepted, refused, Test}
 use Rattle.region_file.specs.declared.fields.Record.{Record}
 use Rattle.region_file.specs.Fields.{record-at, first-record, file-level, reserved-zero, most-records}
-use Rattle.region_file.specs.Chain.{numbers, chain-numbers, on-chain}
-use Rattle.region_file.specs.Judge.{whole, no-further-tests, further-outcome, nowhere, chain-outcome, judge-outcome}
+use Rattle.region_file.specs.Chain.{numbers, chain-numbers, on-chain, no-link, link-at}
+use Rattle.region_file.specs.Judge.{
+  whole,
+  head-outcome,
+  no-further-tests,
+  further-outcome,
+  link-outcome,
+  nowhere,
+  also,
+  chain-outcome,
+  judge-outcome,
+  judge-stop,
+}
 
 -- a chain of a whole file is judged the same, however many links from most-records on the judgement looks at
 abbrev pub ChainsEnd : Type 0
@@ -44,8 +57,32 @@ FurtherTests = (further : Record → List Test) (file : List ℕ)
     ↔ ((judge-outcome no-further-tests file ≡ accepted tt)
     × ((n : ℕ) → on-chain file n ≡ true → further-outcome further (record-at file n) ≡ accepted tt))
 
+-- the records that the links before link k name
+unfoldable pub named-before : List ℕ → ℕ → ℕ → Bool
+named-before file zero = nowhere
+named-before file (suc k) = also (link-at file k .named) (named-before file k)
+
+-- what link k comes to: its tests decide, unless it ends the chain
+abbrev pub outcome-at : (Record → List Test) → List ℕ → ℕ → Outcome Unit
+outcome-at further file k =
+    let n = link-at file k .named in
+    cond (eqb n 0) (accepted tt) (link-outcome further file (named-before file k n) n)
+
+-- the judgement of a file stops at link k: it is the first that ends the chain or is refused, and what it comes to is the judgement
+pub record StopsAt (further : Record → List Test) (file : List ℕ) (k : ℕ) : Type 0 where
+  pub stop : judge-stop further file ≡ link-at file k
+  pub decides : judge-outcome further file ≡ outcome-at further file k
+  pub ends : outcome-at further file k ≡ accepted tt → link-at file k .named ≡ 0
+  pub goes-on : (i : ℕ) → i < k → (link-at file i .named ≡ 0 → ⊥) × (outcome-at further file i ≡ accepted tt)
+
+-- the judgement of a file whose record 0 passes stops at some link; that of another stops at none
+pub record Stops (further : Record → List Test) (file : List ℕ) : Type 0 where
+  pub at-link : head-outcome file ≡ accepted tt → (k : ℕ) × StopsAt further file k
+  pub at-none : (number : ℕ) (values : List ℕ) → head-outcome file ≡ refused number values → judge-stop further file ≡ no-link
+
 pub record Theorems : Type 1 where
   pub chains-end : ChainsEnd
   pub whole-chain : WholeChain
   pub only-the-chain : OnlyTheChain
   pub further-tests : FurtherTests
+  pub stops : (further : Record → List Test) (file : List ℕ) → Stops further file

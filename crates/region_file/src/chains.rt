@@ -13,11 +13,23 @@ ghost use lib.Dec.{eqb};
 ghost use lib.ListN.{getD};
 ghost use Rattle.refusal.specs.Refusal.{of-judgement};
 ghost use Rattle.region_file.specs.Fields.{first-record, record-count, most-records};
-ghost use Rattle.region_file.specs.Chain.{on-chain};
-ghost use Rattle.region_file.specs.Judge.{no-further-tests, record-outcome, link-outcome, chain-outcome, nowhere};
+ghost use Rattle.region_file.specs.Chain.{on-chain, first-link};
+ghost use Rattle.region_file.specs.Judge.{no-further-tests, record-outcome, link-outcome, chain-outcome, nowhere, chain-stop};
 
 // The largest count of visits that a record may have.
 const MOST_VISITS: u32 = 4096;
+
+// A link of the chain: the record that holds it, and the number that it names. Record 0 holds the first, and the number 0 ends the chain.
+pub struct Link {
+    pub holder: u32,
+    pub named: u32,
+}
+
+// A judgement together with the link at which it stopped: the one that is refused, or the one that ends the chain.
+pub struct Judged {
+    pub judgement: Judgement,
+    pub link: Link,
+}
 
 // The tests of a record by itself, 10 and 15. A loader that makes further tests makes them here, after 15.
 fn judge_record(named: Record) -> Judgement
@@ -34,7 +46,7 @@ fn judge_record(named: Record) -> Judgement
 }
 
 // The tests of a link that names record n: 13, 14, and then those of the record. `seen`: an earlier link named it.
-fn judge_link(file: &[u8], n: u32, seen: bool) -> Judgement
+fn judge_named(file: &[u8], n: u32, seen: bool) -> Judgement
     ensures { λ r. ⌜ of-judgement r ≡ link-outcome no-further-tests (now (file .entry)) seen n ⌝ }
 {
     if record_count(file) <= n as usize {
@@ -58,24 +70,34 @@ fn is_marked(marks: &[u8], at: usize) -> bool
 
 // The tests of all links, one link after the other, with a mark for each record that a link has named. The loop ends since each link
 // that passes sets a mark that was not set.
-pub(crate) fn judge_chain(file: &[u8]) -> Judgement
+pub(crate) fn judge_chain(file: &[u8]) -> Judged
     requires { ⌜ record-count (now file) ≤ most-records ⌝ }
-    ensures { λ r. ⌜ of-judgement r ≡ chain-outcome no-further-tests (now (file .entry)) most-records nowhere (first-record (now (file .entry))) ⌝ }
+    ensures judgement { λ r. ⌜
+        of-judgement (r .judgement) ≡ chain-outcome no-further-tests (now (file .entry)) most-records nowhere (first-record (now (file .entry))) ⌝ }
+    ensures link { λ r. ⌜ r .link ≡ chain-stop no-further-tests (now (file .entry)) most-records nowhere (first-link (now (file .entry))) ⌝ }
 {
     let mut marks = [0u8; MOST_RECORDS as usize];
+    let mut holder = 0;
     let mut n = first_record(file);
     while n != 0 {
         let at = n as usize;
         let seen = is_marked(&marks, at);
-        let judged = judge_link(file, n, seen);
+        let judged = judge_named(file, n, seen);
         if let Judgement::Refused(why) = judged {
-            return Judgement::Refused(why);
+            return Judged {
+                judgement: Judgement::Refused(why),
+                link: Link { holder, named: n },
+            };
         }
         marks[at] = 1;
         let passed = record_at(file, n);
+        holder = n;
         n = passed.next;
     }
-    Judgement::Accepted
+    Judged {
+        judgement: Judgement::Accepted,
+        link: Link { holder, named: n },
+    }
 }
 
 // Whether record n is on the chain of a file. The chain of bytes that are not accepted may return, so at most MOST_RECORDS links are

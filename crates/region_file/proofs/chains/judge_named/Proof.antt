@@ -1,4 +1,4 @@
--- `chains::judge_link`: 13 and 14 have their own returns; after them the tests of the record decide.
+-- `chains::judge_named`: 13 and 14 have their own returns; after them the tests of the record decide.
 -- Assumes nothing.
 use mathlib.Core.Path.{_≡_, sym, ap, _∙_, subst}
 use mathlib.Core.Bool.{false}
@@ -10,8 +10,8 @@ use lib.Dec.{leb}
 use Rattle.refusal.proofs.First.{first-refuses, first-passes}
 use Rattle.region_file.specs.Fields.{record-count}
 use Rattle.region_file.specs.Judge.{no-further-tests, record-outcome}
-use Rattle.region_file.proofs.chains.judge_link.Statement.{statement}
-use Rattle.region_file.proofs.chains.judge_link.Tie as tie
+use Rattle.region_file.proofs.chains.judge_named.Statement.{statement}
+use Rattle.region_file.proofs.chains.judge_named.Tie as tie
 
 record-count-requires : tie.Need-record-count-requires
 record-count-requires c κs = search needs
@@ -38,8 +38,8 @@ returns-3 c =
     ∙ ap (record-outcome no-further-tests) (c .before .record-at .ensures)
     ∙ sym (first-passes _ 13 _ (here (c .before .before .before)) ∙ first-passes _ 14 _ (c .before .before .if2 .left))
 
-pub judge-link-spec : {M : Type 1} → statement M
-judge-link-spec =
+pub judge-named-spec : {M : Type 1} → statement M
+judge-named-spec =
     tie.close
     (tie.spec
     record-count-requires
