@@ -1,7 +1,7 @@
 -- The laws of the visits to come from a walk, one for each case of the code; and that from a file's first record the visits to come are the
 -- file's, if it is accepted.
 -- Assumes nothing.
-use mathlib.Core.Path.{_≡_, refl, sym, ap, _∙_}
+use mathlib.Core.Path.{_≡_, refl, sym, ap, ap₂, _∙_}
 use mathlib.Core.Bool.{Bool, true, false, not, _&&_, true≢false}
 use mathlib.Core.List.{List, [], _∷_, _++_, map}
 use mathlib.Core.Logic.{_⊎_, inl, inr}
@@ -16,14 +16,14 @@ use Rattle.refusal.proofs.First.{first-none, first-passes, first-accepted, acce
 use Rattle.stage.specs.declared.regions.Position.{Position}
 use Rattle.stage.specs.Region.{within}
 use Rattle.region_file.specs.declared.fields.Record.{Record}
-use Rattle.region_file.specs.Fields.{record-count}
+use Rattle.region_file.specs.Fields.{record-count, most-records}
 use Rattle.region_file.specs.Chain.{numbers}
 use Rattle.region_file.specs.Judge.{chain-outcome}
 use Rattle.region_file.proofs.Chain.{Linked, linked, chain-some}
 use Rattle.visits.specs.declared.file_walks.FileVisit.{FileVisit}
 use Rattle.visits.specs.declared.file_walks.FileWalk.{FileWalk}
 use Rattle.visits.specs.Visits.{planned, position-of, visit-position-outcome, file-visit, record-visits, visits-of}
-use Rattle.visits.specs.FileWalk.{listable, visits-from, visits-to-come, before-record, ended-walk}
+use Rattle.visits.specs.FileWalk.{listable, visits-from, links-counted, visits-to-come, before-record, ended-walk}
 use Rattle.visits.specs.Stepping.{after-visit}
 
 -- the visits of a record, where there are some and where there are none
@@ -110,7 +110,8 @@ visits-from-empty file links n p h e =
 module _ (file : List ℕ) (p : FileWalk) where
   to-come-within : within (p .planned .region) ≡ true
       → visits-to-come file p
-      ≡ record-visits (p .number) (p .planned) (p .index) (p .planned .count - p .index) ++ visits-from file (p .links) (p .planned .next)
+      ≡ record-visits (p .number) (p .planned) (p .index) (p .planned .count - p .index)
+      ++ visits-from file (links-counted (p .links)) (p .planned .next)
   unfolding visits-to-come
   to-come-within e = simp e
 
@@ -120,10 +121,10 @@ module _ (file : List ℕ) (p : FileWalk) where
 
   -- where its record has no visit left, those of the chain from the next record on
   pub to-come-next : within (p .planned .region) ≡ true → p .planned .count ≤ p .index
-      → visits-to-come file p ≡ visits-from file (p .links) (p .planned .next)
+      → visits-to-come file p ≡ visits-from file (links-counted (p .links)) (p .planned .next)
   to-come-next e h =
       let none : p .planned .count - p .index ≤ 0 = omega arith in
-      to-come-within e ∙ ap (λ (l : List FileVisit). l ++ visits-from file (p .links) (p .planned .next))
+      to-come-within e ∙ ap (λ (l : List FileVisit). l ++ visits-from file (links-counted (p .links)) (p .planned .next))
       (record-visits-none (p .number) (p .planned) (p .index) (p .planned .count - p .index) none)
 
 -- where its record has one left, that visit and those to come from the walk after it
@@ -133,7 +134,7 @@ to-come-first file p e h =
     let n = p .number in
     let r = p .planned in
     let i = p .index in
-    let rest = visits-from file (p .links) (r .next) in
+    let rest = visits-from file (links-counted (p .links)) (r .next) in
     let some : 0 < r .count - i = omega arith in
     let one : r .count - i - 1 ≡ r .count - (i + 1) = omega arith in
     to-come-within file p e
@@ -145,13 +146,14 @@ to-come-first file p e h =
 abbrev pub start-of : ℕ → Record → ℕ → FileWalk
 start-of n r links = record { number = n; planned = r; index = 0; links = links }
 
-pub start-comes : (file : List ℕ) (links n : ℕ) → 0 < links → listable file n ≡ true → visits-to-come file (start-of n (planned file n) (links - 1))
-    ≡ visits-from file links n
-start-comes file links n p h =
+pub start-comes : (file : List ℕ) (links n : ℕ) → 0 < links → links ≤ most-records → listable file n ≡ true
+    → visits-to-come file (start-of n (planned file n) (links - 1)) ≡ visits-from file links n
+start-comes file links n p few h =
     let r = planned file n in
     let all : r .count - 0 ≡ r .count = omega arith in
+    let counted : links-counted (links - 1) ≡ links - 1 = omega arith in
     to-come-within file (start-of n r (links - 1)) (listable-within file n h)
-    ∙ ap (λ (k : ℕ). record-visits n r 0 k ++ visits-from file (links - 1) (r .next)) all
+    ∙ ap₂ (λ (k l : ℕ). record-visits n r 0 k ++ visits-from file l (r .next)) all counted
     ∙ sym (visits-from-more file links n p h)
 
 -- from the walk before a record, those of the chain that begins with the record
@@ -159,7 +161,7 @@ before-within : (next links : ℕ) → within (before-record next links .planned
 unfolding within
 before-within next links = refl
 
-pub before-comes : (file : List ℕ) (next links : ℕ) → visits-to-come file (before-record next links) ≡ visits-from file links next
+pub before-comes : (file : List ℕ) (next links : ℕ) → visits-to-come file (before-record next links) ≡ visits-from file (links-counted links) next
 before-comes file next links =
     let none : before-record next links .planned .count ≤ before-record next links .index = omega arith in
     to-come-next file (before-record next links) (before-within next links) none

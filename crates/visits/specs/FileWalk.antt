@@ -2,13 +2,13 @@
 use mathlib.Core.Path.{_≡_}
 use mathlib.Core.Bool.{Bool, cond, not, _&&_}
 use mathlib.Core.List.{List, [], _∷_, _++_}
-use Prim.Native.Nat.{ℕ, zero, suc, _-_}
+use Prim.Native.Nat.{ℕ, zero, suc, _-_, min}
 use lib.Dec.{eqb, leb}
 use lib.IntN.{pos}
 use Rattle.refusal.specs.Outcome.{Outcome, accepted}
 use Rattle.refusal.specs.Refusal.{of-refusal}
 use Rattle.stage.specs.Region.{within}
-use Rattle.region_file.specs.Fields.{record-count}
+use Rattle.region_file.specs.Fields.{record-count, most-records}
 use Rattle.visits.specs.declared.file_walks.FileVisit.{FileVisit}
 use Rattle.visits.specs.declared.file_walks.FileWalk.{FileWalk}
 use Rattle.visits.specs.declared.file_walks.FileStep.{FileStep}
@@ -27,12 +27,18 @@ visits-from file zero n = []
 visits-from file (suc links) n =
     cond (listable file n) (record-visits n (planned file n) 0 (planned file n .count) ++ visits-from file links (planned file n .next)) []
 
+-- the number of links that count where a walk says how many may follow: no more than a file can have records, so that also a walk made by
+-- hand soon comes to its end
+abbrev pub links-counted : ℕ → ℕ
+links-counted links = min links most-records
+
 -- the visits to come from a walk: those left of its record, and then those of the chain that begins with the record's next number.
 -- A walk whose region is outside its limits has none.
 unfoldable pub visits-to-come : List ℕ → FileWalk → List FileVisit
 visits-to-come file p =
     let r = p .planned in
-    cond (within (r .region)) (record-visits (p .number) r (p .index) (r .count - p .index) ++ visits-from file (p .links) (r .next)) []
+    cond (within (r .region))
+    (record-visits (p .number) r (p .index) (r .count - p .index) ++ visits-from file (links-counted (p .links)) (r .next)) []
 
 -- what a step gives: the first visit to come with the walk after it, or the end where none is to come
 abbrev pub Gives : List ℕ → FileWalk → FileStep → FileWalk → Type 0

@@ -10,7 +10,7 @@ use Rattle.visits.specs.declared.file_walks.FileWalk.{FileWalk}
 use Rattle.visits.specs.declared.file_walks.FileStep.the-variants as step
 use Rattle.visits.specs.declared.file_walks.FileStepped.{FileStepped}
 use Rattle.visits.specs.Visits.{file-visit}
-use Rattle.visits.specs.FileWalk.{visits-from, visits-to-come}
+use Rattle.visits.specs.FileWalk.{visits-from, links-counted, visits-to-come}
 
 -- the walk after the visit at its index
 abbrev pub after-visit : FileWalk → FileWalk
@@ -23,7 +23,8 @@ step-in-record p =
     (record { step = step.Visited (file-visit (p .number) (p .planned) (p .index)); walk = after-visit p })
     (record { step = step.Ended; walk = p })
 
--- from the walk p the visits of the chain that begins with record n are to come, and p has a visit at its index unless none is to come
+-- from the walk p the visits of the chain that begins with record n are to come, over as many of the links as count, and p has a visit at its
+-- index unless none is to come
 pub record AtNextVisit (file : List ℕ) (n links : ℕ) (p : FileWalk) : Type 0 where
-  pub same : visits-to-come file p ≡ visits-from file links n
+  pub same : visits-to-come file p ≡ visits-from file (links-counted links) n
   pub ready : (p .index < p .planned .count) ⊎ (visits-to-come file p ≡ [])

@@ -21,7 +21,7 @@ pub struct FileVisit {
 }
 
 // A cursor over the visits of a file: a record with its number, the index of the next visit in it, and the number of records that may
-// still follow.
+// still follow, of which no more count than a file can have.
 pub struct FileWalk {
     pub number: u32,
     pub planned: Record,

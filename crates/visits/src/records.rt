@@ -1,11 +1,12 @@
 // The records of a file as the planner reads them, and walks that stand before or at one.
 use crate::file_walks::FileWalk;
 use plan::Shift;
+use region_file::MOST_RECORDS;
 use region_file::Record;
 use stage::Region;
 ghost use mathlib.Core.Path.{_≡_};
 ghost use Rattle.visits.specs.Visits.{planned};
-ghost use Rattle.visits.specs.FileWalk.{listable, before-record};
+ghost use Rattle.visits.specs.FileWalk.{listable, links-counted, before-record};
 ghost use Rattle.visits.specs.Stepping.{AtNextVisit};
 
 // Record n as the planner reads it.
@@ -52,13 +53,24 @@ pub(crate) fn before_record(next: u32, links: u32) -> FileWalk
     }
 }
 
-// The walk at the first visit of the chain that begins with record `start`, with at most `links` records; a walk that has ended where
-// the chain has no visit. Records without visits are passed over.
+// How many links count: no more than a file can have records, so that a walk made by hand, whose number of links may be anything, costs
+// no more than one that was opened.
+fn links_counted(links: u32) -> u32
+    ensures { λ r. ⌜ r ≡ links-counted links ⌝ }
+{
+    if MOST_RECORDS < links {
+        return MOST_RECORDS;
+    }
+    links
+}
+
+// The walk at the first visit of the chain that begins with record `start`, with at most `links` records, as far as they count; a walk
+// that has ended where the chain has no visit. Records without visits are passed over.
 pub(crate) fn at_next_visit(file: &[u8], start: u32, links: u32) -> FileWalk
     ensures { λ r. ⌜ AtNextVisit (now (file .entry)) start links r ⌝ }
 {
     let mut n = start;
-    let mut left = links;
+    let mut left = links_counted(links);
     while left > 0 {
         if !listable(file, n) {
             return FileWalk::ended();
