@@ -3,6 +3,7 @@
 // them stand in this crate, since `rt staticlib` puts only a crate's own functions under their C names.
 mod file_walks;
 mod fills;
+mod interface;
 mod judging;
 mod listings;
 mod pairs;
