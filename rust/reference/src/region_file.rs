@@ -1,5 +1,6 @@
 //! The region file: records of 32 bytes, the chain through them, its visits.
 //! Written from documents 01, 003 and 004 alone and not from the Rattle code.
+//! Only `Stopped` is not in them: it follows the end of docs/REFUSALS.md.
 
 use crate::check::judge_level;
 use crate::pair::{Pair, Shift};
@@ -25,6 +26,18 @@ pub struct Record {
     pub count: u32,
 }
 
+/// Why a file was refused, and the link at which its judgement stopped.
+#[derive(Clone, Copy, Debug, PartialEq, Eq)]
+pub struct Stopped {
+    pub refusal: Refusal,
+    /// The number of the record that holds the link: 0 for the link in record
+    /// 0, and otherwise that of a record on the chain.
+    pub holder: u32,
+    /// The number that the link names. Refusals 10 and 15 are faults of the
+    /// record with this number; for 13 the file has no such record.
+    pub named: u32,
+}
+
 /// One line of the listing.
 #[derive(Clone, Copy, Debug, PartialEq, Eq)]
 pub struct Visit {
@@ -38,9 +51,35 @@ pub fn file_of(records: &[Fields]) -> Vec<u8> {
     records.iter().flatten().flat_map(|field| field.to_le_bytes()).collect()
 }
 
-/// Refusals 11, 2 and 12, in this order, and then those of the links; otherwise
-/// the records of the chain in its order.
+/// The records of the chain in its order, or why the file is refused.
 pub fn chain(file: &[u8]) -> Result<Vec<Record>, Refusal> {
+    follow(file).map_err(|stopped| stopped.refusal)
+}
+
+/// Nothing for a file that is accepted; otherwise where its judgement stopped.
+pub fn judged(file: &[u8]) -> Result<(), Stopped> {
+    follow(file).map(|_| ())
+}
+
+/// The refusals before the first link and then those of the links; otherwise
+/// the records of the chain in its order. This is the only walk along the
+/// chain, so `chain` and `judged` cannot differ in their refusals.
+fn follow(file: &[u8]) -> Result<Vec<Record>, Stopped> {
+    // What is wrong before the first link concerns no link.
+    let no_link = |refusal| Stopped { refusal, holder: 0, named: 0 };
+    let (mut holder, mut named) = (0, judge_head(file).map_err(no_link)?);
+    let mut chain = Vec::new();
+    while named != 0 {
+        let stopped = |refusal| Stopped { refusal, holder, named };
+        let (record, next) = judge_link(file, &chain, named).map_err(stopped)?;
+        chain.push(record);
+        (holder, named) = (named, next);
+    }
+    Ok(chain)
+}
+
+/// Refusals 11, 2 and 12, in this order; otherwise the number in record 0.
+fn judge_head(file: &[u8]) -> Result<u32, Refusal> {
     if file.is_empty() || file.len() > LARGEST_FILE || file.len() % RECORD_BYTES != 0 {
         return Err(Refusal::FileLength);
     }
@@ -50,14 +89,7 @@ pub fn chain(file: &[u8]) -> Result<Vec<Record>, Refusal> {
     if file[8..RECORD_BYTES].iter().any(|&byte| byte != 0) {
         return Err(Refusal::HeadBytes);
     }
-    let mut chain = Vec::new();
-    let mut link = first;
-    while link != 0 {
-        let (record, next) = judge_link(file, &chain, link)?;
-        chain.push(record);
-        link = next;
-    }
-    Ok(chain)
+    Ok(first)
 }
 
 /// Refusals 13, 14, 10 and 15 of a link that is not 0, in this order; otherwise
@@ -101,6 +133,7 @@ pub fn visits(chain: &[Record]) -> impl Iterator<Item = Visit> + '_ {
 mod tests {
     use super::*;
     use crate::random::Random;
+    use crate::trial::files;
 
     const NEXT: usize = 0;
     const LEFT: usize = 1;
@@ -121,13 +154,40 @@ mod tests {
     }
 
     /// The numbers of the chain's records, or the number of the refusal.
-    fn judged(records: &[Fields]) -> Result<Vec<u32>, u32> {
+    fn outcome(records: &[Fields]) -> Result<Vec<u32>, u32> {
         numbers(&file_of(records))
     }
 
     fn numbers(file: &[u8]) -> Result<Vec<u32>, u32> {
         let chain = chain(file).map_err(Refusal::number)?;
         Ok(chain.iter().map(|record| record.number).collect())
+    }
+
+    /// The number of the refusal, the holder and the number named.
+    fn stop(file: &[u8]) -> Result<(), (u32, u32, u32)> {
+        judged(file).map_err(|stop| (stop.refusal.number(), stop.holder, stop.named))
+    }
+
+    fn stop_of(records: &[Fields]) -> Result<(), (u32, u32, u32)> {
+        stop(&file_of(records))
+    }
+
+    /// The numbers 1 to 2,047, shuffled.
+    fn any_order() -> Vec<u32> {
+        let mut random = Random::from_seed(2_047);
+        let mut order: Vec<u32> = (1..=2_047).collect();
+        order.sort_by_cached_key(|_| random.word());
+        order
+    }
+
+    /// The largest file, whose chain is of all the records in this order.
+    fn longest(order: &[u32]) -> Vec<Fields> {
+        let mut records = vec![RECORD; 2_048];
+        records[0] = head(order[0], 32);
+        for link in order.windows(2) {
+            records[link[0] as usize][NEXT] = link[1];
+        }
+        records
     }
 
     #[test]
@@ -160,15 +220,15 @@ mod tests {
     #[test]
     fn examples_of_the_table() {
         assert_eq!(numbers(&file_of(&[head(1, 2), RECORD])[..40]), Err(11));
-        assert_eq!(judged(&[head(1, 33), RECORD]), Err(2));
+        assert_eq!(outcome(&[head(1, 33), RECORD]), Err(2));
         let mut file = file_of(&[head(1, 2), RECORD]);
         file[8] = 1;
         assert_eq!(numbers(&file), Err(12));
-        assert_eq!(judged(&[head(1, 2), with(NEXT, 5)]), Err(13));
-        assert_eq!(judged(&[head(1, 2), with(NEXT, 1)]), Err(14));
-        assert_eq!(judged(&[head(1, 2), with(WIDTH, 0)]), Err(10));
-        assert_eq!(judged(&[head(1, 2), with(COUNT, 4_097)]), Err(15));
-        assert_eq!(judged(&[head(1, 2), with(COUNT, 4_096)]), Ok(vec![1]));
+        assert_eq!(outcome(&[head(1, 2), with(NEXT, 5)]), Err(13));
+        assert_eq!(outcome(&[head(1, 2), with(NEXT, 1)]), Err(14));
+        assert_eq!(outcome(&[head(1, 2), with(WIDTH, 0)]), Err(10));
+        assert_eq!(outcome(&[head(1, 2), with(COUNT, 4_097)]), Err(15));
+        assert_eq!(outcome(&[head(1, 2), with(COUNT, 4_096)]), Ok(vec![1]));
     }
 
     #[test]
@@ -203,18 +263,18 @@ mod tests {
         let mut file = file_of(&[bad_head, worst]);
         file.push(0);
         assert_eq!(numbers(&file), Err(11));
-        assert_eq!(judged(&[bad_head, worst]), Err(2));
+        assert_eq!(outcome(&[bad_head, worst]), Err(2));
         bad_head[1] = 32;
-        assert_eq!(judged(&[bad_head, worst]), Err(12));
-        assert_eq!(judged(&[head(7, 32), worst]), Err(13));
-        assert_eq!(judged(&[head(1, 32), worst]), Err(10));
+        assert_eq!(outcome(&[bad_head, worst]), Err(12));
+        assert_eq!(outcome(&[head(7, 32), worst]), Err(13));
+        assert_eq!(outcome(&[head(1, 32), worst]), Err(10));
         let mut record = worst;
         record[LEFT..=4].copy_from_slice(&[0, 0, 1, 1]);
-        assert_eq!(judged(&[head(1, 32), record]), Err(15));
+        assert_eq!(outcome(&[head(1, 32), record]), Err(15));
         record[COUNT] = 0;
-        assert_eq!(judged(&[head(1, 32), record]), Err(13));
+        assert_eq!(outcome(&[head(1, 32), record]), Err(13));
         record[NEXT] = 1;
-        assert_eq!(judged(&[head(1, 32), record]), Err(14));
+        assert_eq!(outcome(&[head(1, 32), record]), Err(14));
     }
 
     /// The record a link names is judged before the link it holds.
@@ -222,40 +282,134 @@ mod tests {
     fn link_is_judged_whole_before_the_next() {
         let mut record = with(NEXT, 5);
         record[COUNT] = 4_097;
-        assert_eq!(judged(&[head(1, 2), record]), Err(15));
+        assert_eq!(outcome(&[head(1, 2), record]), Err(15));
         let second = with(WIDTH, 0);
-        assert_eq!(judged(&[head(1, 2), with(NEXT, 2), second]), Err(10));
-        assert_eq!(judged(&[head(2, 2), with(COUNT, 4_097), second]), Err(10));
+        assert_eq!(outcome(&[head(1, 2), with(NEXT, 2), second]), Err(10));
+        assert_eq!(outcome(&[head(2, 2), with(COUNT, 4_097), second]), Err(10));
     }
 
     #[test]
     fn records_off_the_chain_are_not_judged() {
         let junk = [u32::MAX; 8];
-        assert_eq!(judged(&[head(2, 2), junk, RECORD, junk]), Ok(vec![2]));
-        assert_eq!(judged(&[head(0, 2), junk]), Ok(vec![]));
+        assert_eq!(outcome(&[head(2, 2), junk, RECORD, junk]), Ok(vec![2]));
+        assert_eq!(outcome(&[head(0, 2), junk]), Ok(vec![]));
     }
 
     #[test]
     fn links_are_judged_at_the_end_of_the_file() {
-        assert_eq!(judged(&[head(1, 2)]), Err(13));
-        assert_eq!(judged(&[head(2, 2), RECORD]), Err(13));
-        assert_eq!(judged(&[head(u32::MAX, 2), RECORD]), Err(13));
+        assert_eq!(outcome(&[head(1, 2)]), Err(13));
+        assert_eq!(outcome(&[head(2, 2), RECORD]), Err(13));
+        assert_eq!(outcome(&[head(u32::MAX, 2), RECORD]), Err(13));
         // This number times 32 is 32 again when cut to 32 bits.
-        assert_eq!(judged(&[head(0x0800_0001, 2), RECORD]), Err(13));
+        assert_eq!(outcome(&[head(0x0800_0001, 2), RECORD]), Err(13));
     }
 
     #[test]
     fn chain_of_all_records_in_any_order() {
-        let mut random = Random::from_seed(2_047);
-        let mut order: Vec<u32> = (1..=2_047).collect();
-        order.sort_by_cached_key(|_| random.word());
-        let mut records = vec![RECORD; 2_048];
-        records[0] = head(order[0], 32);
-        for link in order.windows(2) {
-            records[link[0] as usize][NEXT] = link[1];
-        }
-        assert_eq!(judged(&records), Ok(order.clone()));
+        let order = any_order();
+        let mut records = longest(&order);
+        assert_eq!(outcome(&records), Ok(order.clone()));
         records[order[2_046] as usize][NEXT] = order[0];
-        assert_eq!(judged(&records), Err(14));
+        assert_eq!(outcome(&records), Err(14));
+    }
+
+    #[test]
+    fn accepted_file_stops_nowhere() {
+        assert_eq!(stop_of(&[head(0, 2)]), Ok(()));
+        assert_eq!(stop_of(&[head(1, 2), RECORD]), Ok(()));
+        assert_eq!(stop_of(&[head(2, 2), RECORD, with(NEXT, 1)]), Ok(()));
+    }
+
+    /// Every file but the empty one has a link to a missing record, so that a
+    /// judgement that went on to the links would show it.
+    #[test]
+    fn stop_before_the_links_names_none() {
+        assert_eq!(stop(&[]), Err((11, 0, 0)));
+        let mut file = file_of(&[head(7, 2), RECORD]);
+        assert_eq!(stop(&file[..40]), Err((11, 0, 0)));
+        file[8] = 1;
+        assert_eq!(stop(&file), Err((12, 0, 0)));
+        assert_eq!(stop_of(&[head(7, 33), RECORD]), Err((2, 0, 0)));
+        assert_eq!(stop_of(&[head(1, 0), with(NEXT, 7)]), Err((2, 0, 0)));
+    }
+
+    #[test]
+    fn stop_at_a_missing_record() {
+        assert_eq!(stop_of(&[head(1, 2)]), Err((13, 0, 1)));
+        assert_eq!(stop_of(&[head(u32::MAX, 2), RECORD]), Err((13, 0, u32::MAX)));
+        assert_eq!(stop_of(&[head(1, 2), with(NEXT, 5)]), Err((13, 1, 5)));
+        // The chain is 3, 1. The number is given whole, not cut to a record's.
+        let far = with(NEXT, 0x0800_0001);
+        let records = [head(3, 2), far, RECORD, with(NEXT, 1)];
+        assert_eq!(stop_of(&records), Err((13, 1, 0x0800_0001)));
+    }
+
+    /// The chain is 4, 3, 2 each time, so that no number is its place there.
+    #[test]
+    fn stop_at_a_return() {
+        for named in [4, 3, 2] {
+            let records = [head(4, 2), RECORD, with(NEXT, named), with(NEXT, 2), with(NEXT, 3)];
+            assert_eq!(stop_of(&records), Err((14, 2, named)));
+        }
+        assert_eq!(stop_of(&[head(1, 2), with(NEXT, 1)]), Err((14, 1, 1)));
+    }
+
+    /// The record before the bad one holds the link that is judged.
+    #[test]
+    fn stop_at_a_bad_region_or_count() {
+        for (field, value, number) in [(LEFT, 1_000_001, 10), (WIDTH, 0, 10), (COUNT, 4_097, 15)] {
+            let bad = with(field, value);
+            assert_eq!(stop_of(&[head(2, 2), RECORD, bad]), Err((number, 0, 2)));
+            let records = [head(2, 2), bad, with(NEXT, 3), with(NEXT, 1)];
+            assert_eq!(stop_of(&records), Err((number, 3, 1)));
+        }
+    }
+
+    /// A fault of record 2 comes before one of the link in it. Each file has
+    /// every fault from its own on; the earlier ones are mended.
+    #[test]
+    fn stop_at_a_record_before_the_link_in_it() {
+        for (next, number) in [(5, 13), (2, 14), (3, 14)] {
+            let mut record = [next, 0, 0, 0, 1, 0, 0, 4_097];
+            let stop_with = |record| stop_of(&[head(3, 2), RECORD, record, with(NEXT, 2)]);
+            assert_eq!(stop_with(record), Err((10, 3, 2)));
+            record[WIDTH] = 1;
+            assert_eq!(stop_with(record), Err((15, 3, 2)));
+            record[COUNT] = 4_096;
+            assert_eq!(stop_with(record), Err((number, 2, next)));
+        }
+    }
+
+    #[test]
+    fn stop_at_the_end_of_the_longest_chain() {
+        let order = any_order();
+        let last = order[2_046];
+        let mut records = longest(&order);
+        for named in [order[0], order[1_000], last] {
+            records[last as usize][NEXT] = named;
+            assert_eq!(stop_of(&records), Err((14, last, named)));
+        }
+        records[last as usize][NEXT] = 2_048;
+        assert_eq!(stop_of(&records), Err((13, last, 2_048)));
+        records[last as usize] = with(COUNT, 4_097);
+        assert_eq!(stop_of(&records), Err((15, order[2_045], last)));
+        records[last as usize] = RECORD;
+        assert_eq!(stop_of(&records), Ok(()));
+    }
+
+    /// Whatever the damage, the holder is a record whose link is the one named.
+    #[test]
+    fn stop_is_at_a_link_of_the_file() {
+        for number in 0..1_000 {
+            let file = files::make(3, number);
+            match stop(&file) {
+                Ok(()) => (),
+                Err((11 | 2 | 12, holder, named)) => assert_eq!((holder, named), (0, 0)),
+                Err((_, holder, named)) => {
+                    assert_ne!(named, 0);
+                    assert_eq!(fields(&file[holder as usize * RECORD_BYTES..])[NEXT], named);
+                }
+            }
+        }
     }
 }
