@@ -1,7 +1,8 @@
 //! Finds the archive of the proved library and links it.
 
 use std::env;
-use std::path::PathBuf;
+use std::fs;
+use std::path::{Path, PathBuf};
 use std::process::ExitCode;
 
 /// Names another folder that holds the archive.
@@ -9,14 +10,17 @@ const FOLDER_VARIABLE: &str = "VEKTRID_ARCHIVE_DIR";
 
 const ARCHIVE: &str = "libvektrid.a";
 
+/// The call that answers the number of the interface, which src/library.rs compares.
+const NUMBER_CALL: &str = "vektrid_abi";
+
 fn main() -> ExitCode {
     println!("cargo:rerun-if-env-changed={FOLDER_VARIABLE}");
     let folder = folder();
     let archive = folder.join(ARCHIVE);
     println!("cargo:rerun-if-changed={}", archive.display());
-    if !archive.is_file() {
+    if let Some(fault) = fault(&archive) {
         eprintln!(
-            "{} is missing: run tools/archive from the root of the repository, which makes it, \
+            "{} {fault}: run tools/archive from the root of the repository, which makes it, \
              or set {FOLDER_VARIABLE} to a folder that has it",
             archive.display()
         );
@@ -35,4 +39,15 @@ fn folder() -> PathBuf {
     let here = PathBuf::from(package).join("../../target/staticlib");
     // A path without `..` reads better in the message; a missing folder stays as it is.
     here.canonicalize().unwrap_or(here)
+}
+
+/// Why the archive cannot be linked. One without the call is found here, because the linker would
+/// say only that a name is missing; which number the call answers is known when a program runs.
+fn fault(archive: &Path) -> Option<String> {
+    let content = match fs::read(archive) {
+        Ok(content) => content,
+        Err(error) => return Some(format!("cannot be read ({error})")),
+    };
+    let has_call = content.windows(NUMBER_CALL.len()).any(|name| name == NUMBER_CALL.as_bytes());
+    (!has_call).then(|| format!("is older than this crate: it has no {NUMBER_CALL}"))
 }

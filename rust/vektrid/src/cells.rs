@@ -1,13 +1,13 @@
 //! From an elementary interval back to the visit in it.
 
+use crate::library;
 use crate::pair::Pair;
 use crate::points::Shift;
 use crate::raw;
 use crate::refusal::{judged_net, Refusal};
 
-/// An elementary interval (01: a cell) of the shape (m, a), and the block to look in. The shape has
-/// 2^a columns and 2^(m-a) rows; block k
-/// has the indexes k × 2^m to (k+1) × 2^m - 1.
+/// An elementary interval (cell) of the shape (m, a), and the block to look in. The shape has 2^a
+/// columns and 2^(m-a) rows; block k has the indexes k × 2^m to (k+1) × 2^m - 1.
 #[derive(Clone, Copy, Debug, PartialEq, Eq, Hash)]
 pub struct Cell {
     /// The block has 2^m visits.
@@ -45,7 +45,7 @@ pub fn query_words(words: &[u32], shift: Shift, level: u32, cell: Cell) -> Resul
     let Cell { m, a, column, row, block } = cell;
     let (mut index, mut j) = (0, 0);
     // SAFETY: the words are a lent slice with its length; the others are two variables.
-    let number = unsafe {
+    let number = library::call(|| unsafe {
         raw::vektrid_query(
             words.as_ptr(),
             words.len(),
@@ -60,6 +60,6 @@ pub fn query_words(words: &[u32], shift: Shift, level: u32, cell: Cell) -> Resul
             &mut index,
             &mut j,
         )
-    };
+    });
     judged_net(number, m, a, j).map(|()| index)
 }

@@ -24,19 +24,21 @@
 //! repository says where each of them stands.
 //!
 //! Not proved are the boundary, that is the C declarations in [`raw`] and how the compilers pass
-//! arguments, and this crate. It does three things: it hands over lent slices with their lengths,
-//! it gives refusals their names, and it copies answers into structures. `rust/bindings` tests it
-//! and compares its answers with a planner in Rust that was written apart.
+//! arguments, and this crate. It does four things: it compares the library's number with [`ABI`]
+//! before the first call, and panics where they differ; it hands over lent slices with their
+//! lengths; it gives refusals their names; and it copies answers into structures. `rust/bindings`
+//! tests it and compares its answers with a planner in Rust that was written apart.
 //!
 //! # Words
 //!
-//! Items have the names of the field. Where document 01, which says what the planner must do, has
-//! another word or one of its own, the comment says so: a pair (two generator matrices), scramble
-//! (digital shift), cell (elementary interval), walk (cursor over visits).
+//! Comments use the words of the field, and where the planner has a word of its own it stands
+//! behind in brackets: two generator matrices (a pair), digital shift (scramble), elementary
+//! interval (cell), cursor over visits (walk).
 
 #![deny(missing_docs)]
 
 mod cells;
+mod library;
 mod listing;
 mod pair;
 mod points;
@@ -48,11 +50,12 @@ mod unit;
 mod walk;
 
 pub use cells::{query_words, Cell};
+pub use library::ABI;
 pub use listing::{listing, Cursor, Listing, LONGEST_LINE};
 pub use pair::{check_words, standard_words, Pair};
 pub use points::{fill_words, point_words, standard_point, Point, Shift};
 pub use refusal::Refusal;
-pub use region_file::{judge, visits, FileVisit, FileWalk, Visits};
+pub use region_file::{judge, judge_link, visits, FileVisit, FileWalk, Stopped, Visits};
 pub use stage::{Position, Region};
 pub use unit::{double, point_singles_words, single, Singles};
 pub use walk::{SinglesVisit, Steps, Visit, Walk};

@@ -2,6 +2,7 @@
 
 use std::iter::FusedIterator;
 
+use crate::library;
 use crate::raw;
 
 pub use crate::raw::Cursor;
@@ -34,7 +35,9 @@ impl<'a> Listing<'a> {
     pub fn open(file: &'a [u8]) -> Listing<'a> {
         let mut cursor = Cursor { words: [0; 13] };
         // SAFETY: a lent slice with its length, and a variable.
-        unsafe { raw::vektrid_listing_open(file.as_ptr(), file.len(), &mut cursor) };
+        library::call(|| unsafe {
+            raw::vektrid_listing_open(file.as_ptr(), file.len(), &mut cursor)
+        });
         Listing { file, cursor }
     }
 
@@ -55,7 +58,7 @@ impl<'a> Listing<'a> {
     pub fn piece(&mut self, buffer: &mut [u8]) -> usize {
         // SAFETY: two lent slices with their lengths, the written one lent to us alone, and a
         // field.
-        unsafe {
+        library::call(|| unsafe {
             raw::vektrid_listing_piece(
                 self.file.as_ptr(),
                 self.file.len(),
@@ -63,7 +66,7 @@ impl<'a> Listing<'a> {
                 buffer.as_mut_ptr(),
                 buffer.len(),
             )
-        }
+        })
     }
 }
 

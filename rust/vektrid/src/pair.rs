@@ -1,13 +1,13 @@
 //! Pairs of generator matrices and their check.
 
+use crate::library;
 use crate::raw;
 use crate::refusal::{judged, judged_net, Refusal};
 
-/// Two generator matrices (01: a pair), by value.
+/// Two generator matrices (a pair), by value.
 ///
 /// The 32 columns of X come first, then those of Y. Column c belongs to index bit c; the top bit of
-/// a word is row 0. Points, fills and
-/// walks take any pair, checked or not.
+/// a word is row 0. Points, fills and walks take any pair, checked or not.
 ///
 /// ```
 /// use vektrid::{Pair, Refusal};
@@ -53,8 +53,7 @@ impl Pair {
     }
 
     /// Whether the pair passes a level: every block of 2^m visits, m up to the level, is a net.
-    /// Refused under 2, or under 3 with the first
-    /// bad shape.
+    /// Refused under 2, or under 3 with the first bad shape.
     pub fn check(&self, level: u32) -> Result<(), Refusal> {
         check_words(&self.words, level)
     }
@@ -63,14 +62,15 @@ impl Pair {
 /// Writes the words of the standard pair. Refused under 1 unless 64 words are lent.
 pub fn standard_words(words: &mut [u32]) -> Result<(), Refusal> {
     // SAFETY: the pointer and the length are those of one lent slice.
-    judged(unsafe { raw::vektrid_standard_pair(words.as_mut_ptr(), words.len()) })
+    judged(library::call(|| unsafe { raw::vektrid_standard_pair(words.as_mut_ptr(), words.len()) }))
 }
 
 /// The check over any number of words. Refused under 1, 2 or 3.
 pub fn check_words(words: &[u32], level: u32) -> Result<(), Refusal> {
     let (mut m, mut a, mut j) = (0, 0, 0);
     // SAFETY: the words are a lent slice with its length; the others are three variables.
-    let number =
-        unsafe { raw::vektrid_check(words.as_ptr(), words.len(), level, &mut m, &mut a, &mut j) };
+    let number = library::call(|| unsafe {
+        raw::vektrid_check(words.as_ptr(), words.len(), level, &mut m, &mut a, &mut j)
+    });
     judged_net(number, m, a, j)
 }

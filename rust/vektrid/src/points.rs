@@ -1,10 +1,11 @@
 //! Points from indexes, one by one and into buffers.
 
+use crate::library;
 use crate::pair::Pair;
 use crate::raw;
 use crate::refusal::{judged, Refusal};
 
-/// A digital shift (01: scramble), one word for each axis. The default shifts nothing.
+/// A digital shift (scramble), one word for each axis. The default shifts nothing.
 #[derive(Clone, Copy, Debug, Default, PartialEq, Eq, Hash)]
 pub struct Shift {
     /// Added to the first coordinate, bit by bit modulo 2.
@@ -70,9 +71,9 @@ impl Pair {
 pub fn standard_point(shift: Shift, index: u32) -> Point {
     let mut point = Point { x: 0, y: 0 };
     // SAFETY: two fields of one variable.
-    unsafe {
+    library::call(|| unsafe {
         raw::vektrid_standard_point(shift.x, shift.y, index, &mut point.x, &mut point.y);
-    }
+    });
     point
 }
 
@@ -81,7 +82,7 @@ pub fn point_words(words: &[u32], shift: Shift, index: u32) -> Result<Point, Ref
     let mut point = Point { x: 0, y: 0 };
     // SAFETY: the words are a lent slice with its length; the others are two fields of one
     // variable.
-    let number = unsafe {
+    let number = library::call(|| unsafe {
         raw::vektrid_point(
             words.as_ptr(),
             words.len(),
@@ -91,7 +92,7 @@ pub fn point_words(words: &[u32], shift: Shift, index: u32) -> Result<Point, Ref
             &mut point.x,
             &mut point.y,
         )
-    };
+    });
     judged(number).map(|()| point)
 }
 
@@ -104,7 +105,7 @@ pub fn fill_words(
     ys: &mut [u32],
 ) -> Result<(), Refusal> {
     // SAFETY: three lent slices with their lengths; those written are lent to us alone.
-    judged(unsafe {
+    judged(library::call(|| unsafe {
         raw::vektrid_fill(
             words.as_ptr(),
             words.len(),
@@ -116,5 +117,5 @@ pub fn fill_words(
             ys.as_mut_ptr(),
             ys.len(),
         )
-    })
+    }))
 }

@@ -1,4 +1,6 @@
-//! The C calls as `include/vektrid.h` declares them. The rest of this crate makes them safe.
+//! The C calls as `include/vektrid.h` declares them. The rest of this crate makes them safe, and
+//! compares the number of the interface before the first of them; whoever calls them from here
+//! compares `vektrid_abi` with [`ABI`](crate::ABI) first.
 //!
 //! Each answers any numbers. It asks of its caller that no pointer is null, that each points to
 //! aligned memory of its type, that each buffer has the length given beside it, and that what it
@@ -21,6 +23,9 @@ pub struct Cursor {
 }
 
 extern "C" {
+    /// The number of the library's interface.
+    pub fn vektrid_abi() -> u32;
+
     /// Writes the standard pair into 64 words.
     pub fn vektrid_standard_pair(words: *mut u32, count: usize) -> u32;
 
@@ -139,6 +144,14 @@ extern "C" {
 
     /// Judges a region file.
     pub fn vektrid_judge(file: *const u8, size: usize) -> u32;
+
+    /// Judges a region file, and says at which link of a refused one the judgement stopped.
+    pub fn vektrid_judge_link(
+        file: *const u8,
+        size: usize,
+        holder: *mut u32,
+        named: *mut u32,
+    ) -> u32;
 
     /// The walk before the first visit of a file.
     pub fn vektrid_file_walk_open(file: *const u8, size: usize, walk: *mut FileWalk) -> u32;

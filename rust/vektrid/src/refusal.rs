@@ -1,9 +1,11 @@
-//! The refusals of document 01, each with its number and its meaning in words.
+//! The refusals, each with its number and its words. Both are those of the table in
+//! `docs/REFUSALS.md`, against which `tools/refusals` holds this file.
 
 use std::error::Error;
 use std::fmt;
 
-/// Why a call was refused: an error with its number in the refusal table of document 01.
+/// Why a call was refused: an error with its number in the refusal table, `docs/REFUSALS.md` of the
+/// repository.
 ///
 /// ```
 /// let refusal = vektrid::Walk::open(4_294_967_295, 2).unwrap_err();
@@ -19,7 +21,9 @@ pub enum Refusal {
     WordCount,
     /// 2: a level is not 1 to 32.
     Level,
-    /// 3: not a net. An elementary interval (01: cell) holds two visits.
+    /// 3: not a net.
+    ///
+    /// An elementary interval (cell) holds two visits.
     NotNet {
         /// The size of the shape: 2^m visits and as many cells.
         m: u32,
@@ -42,7 +46,7 @@ pub enum Refusal {
     IndexRange,
     /// 10: an edge or an extent of a region is outside its limits.
     Region,
-    /// 11: a file is empty, over 65,536 bytes, or not whole records.
+    /// 11: a file is empty, over 65,536 bytes, or not whole records of 32 bytes.
     FileLength,
     /// 12: bytes 8 to 31 of record 0 are not all zero.
     ReservedBytes,
@@ -118,16 +122,18 @@ impl Refusal {
     fn words(self) -> &'static str {
         match self {
             Refusal::WordCount => "a pair is not 64 words",
-            Refusal::Level => "the level is not 1 to 32",
+            Refusal::Level => "a level is not 1 to 32",
             Refusal::NotNet { .. } => "not a net",
             Refusal::Size => "m is above the level",
             Refusal::Shape => "a is above m",
             Refusal::Cell => "the column or the row is outside the shape",
             Refusal::Block => "the block lies beyond the last index",
-            Refusal::BufferLengths => "the two buffers differ in length",
+            Refusal::BufferLengths => "two buffers differ in length",
             Refusal::IndexRange => "start + count is above 2^32",
-            Refusal::Region => "an edge or an extent of the region is outside its limits",
-            Refusal::FileLength => "the file is empty, over 65,536 bytes, or not whole records",
+            Refusal::Region => "an edge or an extent of a region is outside its limits",
+            Refusal::FileLength => {
+                "a file is empty, over 65,536 bytes, or not whole records of 32 bytes"
+            }
             Refusal::ReservedBytes => "bytes 8 to 31 of record 0 are not all zero",
             Refusal::MissingRecord => "the chain names a record that the file lacks",
             Refusal::ChainReturns => "the chain returns to a record",

@@ -1,7 +1,10 @@
 //! Region files: their judgement and their visits.
 
+use std::error::Error;
+use std::fmt;
 use std::iter::FusedIterator;
 
+use crate::library;
 use crate::raw;
 use crate::refusal::{judged, Refusal};
 
@@ -30,7 +33,55 @@ pub struct FileVisit {
 /// ```
 pub fn judge(file: &[u8]) -> Result<(), Refusal> {
     // SAFETY: the pointer and the length are those of one lent slice.
-    judged(unsafe { raw::vektrid_judge(file.as_ptr(), file.len()) })
+    judged(library::call(|| unsafe { raw::vektrid_judge(file.as_ptr(), file.len()) }))
+}
+
+/// A refused file: why, and the link of the chain at which the judgement stopped. Both numbers are 0
+/// for the refusals 11, 2 and 12, which concern no link; a link that names 0 ends the chain, so no
+/// judgement stops there.
+///
+/// ```
+/// use vektrid::{judge_link, Refusal, Stopped};
+///
+/// let fields = [1, 2, 0, 0, 0, 0, 0, 0, 5, 70, 90, 1000, 800, 0, 0, 2_u32];
+/// let file: Vec<u8> = fields.iter().flat_map(|field| field.to_le_bytes()).collect();
+/// let stopped = judge_link(&file).unwrap_err();
+/// assert_eq!(stopped, Stopped { refusal: Refusal::MissingRecord, holder: 1, named: 5 });
+/// assert_eq!(
+///     stopped.to_string(),
+///     "refusal 13: the chain names a record that the file lacks (record 1 names record 5)"
+/// );
+/// ```
+#[derive(Clone, Copy, Debug, PartialEq, Eq, Hash)]
+pub struct Stopped {
+    /// The refusal that [`judge`] gives.
+    pub refusal: Refusal,
+    /// The number of the record that holds the link.
+    pub holder: u32,
+    /// The number that the link names.
+    pub named: u32,
+}
+
+impl fmt::Display for Stopped {
+    fn fmt(&self, formatter: &mut fmt::Formatter<'_>) -> fmt::Result {
+        let Stopped { refusal, holder, named } = self;
+        match named {
+            0 => write!(formatter, "{refusal}"),
+            _ => write!(formatter, "{refusal} (record {holder} names record {named})"),
+        }
+    }
+}
+
+impl Error for Stopped {}
+
+/// The judgement of [`judge`], and of a refused file also where it stopped.
+pub fn judge_link(file: &[u8]) -> Result<(), Stopped> {
+    let (mut holder, mut named) = (0, 0);
+    // SAFETY: a lent slice with its length, and two variables.
+    let number = library::call(|| unsafe {
+        raw::vektrid_judge_link(file.as_ptr(), file.len(), &mut holder, &mut named)
+    });
+    judged(number).map_err(|refusal| Stopped { refusal, holder, named })
 }
 
 /// The visits of a file, records in the order of the chain, or the refusal that [`judge`] gives.
@@ -49,7 +100,9 @@ pub fn judge(file: &[u8]) -> Result<(), Refusal> {
 pub fn visits(file: &[u8]) -> Result<Visits<'_>, Refusal> {
     let mut walk = FileWalk { words: [0; 11] };
     // SAFETY: a lent slice with its length, and a variable.
-    judged(unsafe { raw::vektrid_file_walk_open(file.as_ptr(), file.len(), &mut walk) })?;
+    judged(library::call(|| unsafe {
+        raw::vektrid_file_walk_open(file.as_ptr(), file.len(), &mut walk)
+    }))?;
     Ok(Visits { file, walk })
 }
 
@@ -80,7 +133,7 @@ impl Iterator for Visits<'_> {
         let mut given = 0;
         let mut visit = FileVisit { record: 0, index: 0, x: 0, y: 0 };
         // SAFETY: a lent slice with its length; the others are variables and fields, all apart.
-        unsafe {
+        library::call(|| unsafe {
             raw::vektrid_file_walk_step(
                 self.file.as_ptr(),
                 self.file.len(),
@@ -91,7 +144,7 @@ impl Iterator for Visits<'_> {
                 &mut visit.x,
                 &mut visit.y,
             );
-        }
+        });
         (given != 0).then_some(visit)
     }
 }

@@ -1,5 +1,6 @@
 //! The stage: regions, and positions in them.
 
+use crate::library;
 use crate::raw;
 use crate::refusal::{judged, Refusal};
 
@@ -42,8 +43,9 @@ impl Region {
         let Region { left, top, width, height } = self;
         let mut at = Position { x: 0, y: 0 };
         // SAFETY: two fields of one variable.
-        let number =
-            unsafe { raw::vektrid_position(left, top, width, height, x, y, &mut at.x, &mut at.y) };
+        let number = library::call(|| unsafe {
+            raw::vektrid_position(left, top, width, height, x, y, &mut at.x, &mut at.y)
+        });
         judged(number).map(|()| at)
     }
 }

@@ -1,5 +1,6 @@
 //! Unit numbers: coordinates from 0 up to 1.
 
+use crate::library;
 use crate::pair::Pair;
 use crate::points::Shift;
 use crate::raw;
@@ -21,7 +22,7 @@ pub struct Singles {
 /// ```
 pub fn double(word: u32) -> f64 {
     // SAFETY: no pointer is passed.
-    unsafe { raw::vektrid_double(word) }
+    library::call(|| unsafe { raw::vektrid_double(word) })
 }
 
 /// The largest single not above a word divided by 2^32, so that it never reaches the next strip.
@@ -32,7 +33,7 @@ pub fn double(word: u32) -> f64 {
 /// ```
 pub fn single(word: u32) -> f32 {
     // SAFETY: no pointer is passed.
-    unsafe { raw::vektrid_single(word) }
+    library::call(|| unsafe { raw::vektrid_single(word) })
 }
 
 impl Pair {
@@ -54,7 +55,7 @@ pub fn point_singles_words(words: &[u32], shift: Shift, index: u32) -> Result<Si
     let mut singles = Singles { x: 0.0, y: 0.0 };
     // SAFETY: the words are a lent slice with its length; the others are two fields of one
     // variable.
-    let number = unsafe {
+    let number = library::call(|| unsafe {
         raw::vektrid_point_singles(
             words.as_ptr(),
             words.len(),
@@ -64,6 +65,6 @@ pub fn point_singles_words(words: &[u32], shift: Shift, index: u32) -> Result<Si
             &mut singles.x,
             &mut singles.y,
         )
-    };
+    });
     judged(number).map(|()| singles)
 }

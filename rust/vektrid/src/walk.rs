@@ -2,13 +2,14 @@
 
 use std::iter::FusedIterator;
 
+use crate::library;
 use crate::pair::Pair;
 use crate::points::{Point, Shift};
 use crate::raw;
 use crate::refusal::{judged, Refusal};
 use crate::unit::Singles;
 
-/// A cursor over visits (01: a walk). The fields are open: a walk made by hand is stepped too.
+/// A cursor over visits (a walk). The fields are open: a walk made by hand is stepped too.
 ///
 /// ```
 /// use vektrid::{Pair, Point, Refusal, Shift, Visit, Walk};
@@ -52,7 +53,9 @@ impl Walk {
     pub fn open(start: u32, count: u64) -> Result<Walk, Refusal> {
         let mut walk = Walk { next: 0, left: 0 };
         // SAFETY: two fields of one variable.
-        judged(unsafe { raw::vektrid_walk_open(start, count, &mut walk.next, &mut walk.left) })?;
+        judged(library::call(|| unsafe {
+            raw::vektrid_walk_open(start, count, &mut walk.next, &mut walk.left)
+        }))?;
         Ok(walk)
     }
 
@@ -90,7 +93,7 @@ impl Walk {
         let (mut given, mut index, mut point) = (0, 0, Point { x: 0, y: 0 });
         // SAFETY: the words are a lent slice with its length; the others are variables and fields,
         // all apart.
-        judged(unsafe {
+        judged(library::call(|| unsafe {
             raw::vektrid_walk_step(
                 words.as_ptr(),
                 words.len(),
@@ -103,7 +106,7 @@ impl Walk {
                 &mut point.x,
                 &mut point.y,
             )
-        })?;
+        }))?;
         Ok(((given != 0).then_some(Visit { index, point }), self))
     }
 
@@ -115,7 +118,7 @@ impl Walk {
     ) -> Result<(Option<SinglesVisit>, Walk), Refusal> {
         let (mut given, mut index, mut singles) = (0, 0, Singles { x: 0.0, y: 0.0 });
         // SAFETY: as in `step_words`.
-        judged(unsafe {
+        judged(library::call(|| unsafe {
             raw::vektrid_walk_step_singles(
                 words.as_ptr(),
                 words.len(),
@@ -128,7 +131,7 @@ impl Walk {
                 &mut singles.x,
                 &mut singles.y,
             )
-        })?;
+        }))?;
         Ok(((given != 0).then_some(SinglesVisit { index, singles }), self))
     }
 }

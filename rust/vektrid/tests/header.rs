@@ -1,10 +1,11 @@
-//! The declarations in raw.rs are those of the C header, and so are the numbers of the refusals. No
-//! compiler compares the two, and a call with other types would go wrong silently.
+//! The declarations in raw.rs are those of the C header, and so are the numbers of the refusals and
+//! of the interface. No compiler compares the two, and a call with other types would go wrong
+//! silently.
 
 use std::mem::size_of;
 
-use vektrid::raw::{Cursor, FileWalk};
-use vektrid::Refusal;
+use vektrid::raw::{self, Cursor, FileWalk};
+use vektrid::{Refusal, ABI};
 
 const HEADER: &str = include_str!(concat!(env!("CARGO_MANIFEST_DIR"), "/../../include/vektrid.h"));
 const RAW: &str = include_str!(concat!(env!("CARGO_MANIFEST_DIR"), "/src/raw.rs"));
@@ -27,7 +28,8 @@ fn c_function(function: &str) -> String {
     let (start, parameters) = function.split_once('(').unwrap();
     // What stands before the first function of the header is on lines of its own.
     let (answer, name) = start.lines().last().unwrap().rsplit_once(' ').unwrap();
-    let parameters = parameters.trim_end_matches(')').split(',').map(c_parameter);
+    let parameters = parameters.trim_end_matches(')').split(',');
+    let parameters = parameters.filter(|&parameter| parameter != "void").map(c_parameter);
     let parameters = parameters.collect::<Vec<_>>().join(", ");
     match answer.trim() {
         "void" => format!("{name}({parameters})"),
@@ -72,9 +74,17 @@ fn declared_in_rust() -> Vec<String> {
 #[test]
 fn declarations_are_those_of_the_header() {
     let (c, rust) = (declared_in_c(), declared_in_rust());
-    assert_eq!(c.len(), 18);
-    assert_eq!(c[2].split_once(',').unwrap().0, "vektrid_point(words: *const u32");
+    assert_eq!(c.len(), 20);
+    assert_eq!(c[0], "vektrid_abi() -> u32");
+    assert_eq!(c[3].split_once(',').unwrap().0, "vektrid_point(words: *const u32");
     assert_eq!(c, rust);
+}
+
+#[test]
+fn interface_has_the_number_of_the_header() {
+    assert!(header().contains(&format!("\n#define VEKTRID_ABI {ABI}\n")));
+    // SAFETY: no pointer is passed.
+    assert_eq!(unsafe { raw::vektrid_abi() }, ABI);
 }
 
 #[test]

@@ -1,4 +1,4 @@
-//! The known points of document 01, and the wrong turns that it names.
+//! The known points of the requirements, and the wrong turns that they name.
 
 use vektrid::{
     check_words, double, query_words, single, standard_point, Cell, Pair, Point, Position, Refusal,

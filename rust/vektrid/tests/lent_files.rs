@@ -3,7 +3,9 @@
 
 mod common;
 
-use common::{example, example_with, WIDTH};
+use std::time::{Duration, Instant};
+
+use common::{example, example_with, COUNT, LEVEL, NEXT, RESERVED, WIDTH};
 use vektrid::raw::{self, FileWalk};
 use vektrid::{visits, Listing, Visits, LONGEST_LINE};
 
@@ -22,6 +24,34 @@ fn refused_file_opens_no_walk() {
         let answer = unsafe { raw::vektrid_file_walk_open(file.as_ptr(), file.len(), &mut walk) };
         assert_eq!((answer, walk), (number, marked));
     }
+}
+
+/// The answer of a judgement and its two words.
+fn judge_link(file: &[u8]) -> [u32; 3] {
+    let (mut holder, mut named) = (MARK, MARK);
+    // SAFETY: a lent slice with its length, and two variables.
+    let answer =
+        unsafe { raw::vektrid_judge_link(file.as_ptr(), file.len(), &mut holder, &mut named) };
+    [answer, holder, named]
+}
+
+#[test]
+fn accepted_file_keeps_the_words_of_the_link() {
+    assert_eq!(judge_link(&example()), [0, MARK, MARK]);
+    assert_eq!(judge_link(&example_with(COUNT, 4_096)), [0, MARK, MARK]);
+    assert_eq!(judge_link(&example_with(0, 0)), [0, MARK, MARK]);
+}
+
+#[test]
+fn refused_file_writes_both_words_of_the_link() {
+    assert_eq!(judge_link(&[]), [11, 0, 0]);
+    assert_eq!(judge_link(&example_with(LEVEL, 33)), [2, 0, 0]);
+    assert_eq!(judge_link(&example_with(RESERVED, 1)), [12, 0, 0]);
+    assert_eq!(judge_link(&example_with(0, u32::MAX)), [13, 0, u32::MAX]);
+    assert_eq!(judge_link(&example_with(NEXT, 5)), [13, 1, 5]);
+    assert_eq!(judge_link(&example_with(NEXT, 1)), [14, 1, 1]);
+    assert_eq!(judge_link(&example_with(WIDTH, 0)), [10, 0, 1]);
+    assert_eq!(judge_link(&example_with(COUNT, 4_097)), [15, 0, 1]);
 }
 
 #[test]
@@ -79,6 +109,19 @@ fn file_walks_made_by_hand_are_answered() {
     }
     // A walk that has ended is an answer too, but not the only one.
     assert!(given > 100);
+}
+
+/// Record 1 has no visits and names itself, and this walk claims that 4,000,000,000 records may still
+/// follow. No file has more than 2,048, so a step follows no more links than that and ends at once.
+#[test]
+fn file_walk_made_by_hand_follows_no_more_links_than_a_file_has_records() {
+    let mut file = example_with(NEXT, 1);
+    file[4 * COUNT..].fill(0);
+    let (number, next, width, height, links) = (1, 1, 1_000, 800, 4_000_000_000);
+    let words = [number, next, 0, 0, width, height, 0, 0, 0, 0, links];
+    let start = Instant::now();
+    assert_eq!(Visits::at(&file, FileWalk { words }).next(), None);
+    assert!(start.elapsed() < Duration::from_secs(5));
 }
 
 /// The same with the words of a cursor.

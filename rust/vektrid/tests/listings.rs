@@ -1,4 +1,4 @@
-//! The example listing of document 01, its visits, and its pieces.
+//! The example listing of the requirements, its visits, and its pieces.
 
 mod common;
 

@@ -1,11 +1,11 @@
-//! Every refusal with its example from the table of document 01, and the order of refusals.
+//! Every refusal with an example, the order of refusals, where a file is refused, and the words.
 
 mod common;
 
 use common::{example, example_with, COUNT, LEVEL, NEXT, RESERVED, WIDTH};
 use vektrid::{
-    check_words, fill_words, judge, point_singles_words, point_words, query_words, standard_words,
-    visits, Cell, Pair, Refusal, Region, Shift, Walk,
+    check_words, fill_words, judge, judge_link, point_singles_words, point_words, query_words,
+    standard_words, visits, Cell, Pair, Refusal, Region, Shift, Stopped, Walk,
 };
 
 const NO_SHIFT: Shift = Shift { x: 0, y: 0 };
@@ -158,6 +158,42 @@ fn eleven_to_fifteen_of_a_file() {
     assert_eq!(judge(&example_with(COUNT, 4_096)), Ok(()));
 }
 
+/// Record 0 names record 3, then come 1 and 2; record 2 has the fields given, its link first.
+fn chain_of_three(last: [u32; 8]) -> Vec<u8> {
+    let through = |next| [next, 0, 0, 1_000, 800, 0, 0, 4];
+    let records = [[3, 2, 0, 0, 0, 0, 0, 0], through(2), last, through(1)];
+    records.iter().flatten().flat_map(|field: &u32| field.to_le_bytes()).collect()
+}
+
+#[test]
+fn refused_file_names_the_link() {
+    let stopped = |refusal, holder, named| Err(Stopped { refusal, holder, named });
+    let missing = chain_of_three([9, 0, 0, 1_000, 800, 0, 0, 4]);
+    assert_eq!(judge_link(&missing), stopped(Refusal::MissingRecord, 2, 9));
+    let returning = chain_of_three([3, 0, 0, 1_000, 800, 0, 0, 4]);
+    assert_eq!(judge_link(&returning), stopped(Refusal::ChainReturns, 2, 3));
+    let outside = chain_of_three([9, 0, 0, 1_000, 0, 0, 0, 4]);
+    assert_eq!(judge_link(&outside), stopped(Refusal::Region, 1, 2));
+    let long = chain_of_three([9, 0, 0, 1_000, 800, 0, 0, 4_097]);
+    assert_eq!(judge_link(&long), stopped(Refusal::VisitCount, 1, 2));
+    assert_eq!(judge_link(&missing[..40]), stopped(Refusal::FileLength, 0, 0));
+    assert_eq!(judge_link(&chain_of_three([0, 0, 0, 1_000, 800, 0, 0, 4])), Ok(()));
+}
+
+#[test]
+fn refused_file_says_where() {
+    let stopped: Box<dyn std::error::Error> =
+        Box::new(judge_link(&example_with(NEXT, 1)).unwrap_err());
+    assert_eq!(
+        stopped.to_string(),
+        "refusal 14: the chain returns to a record (record 1 names record 1)"
+    );
+    for file in [example()[..40].to_vec(), example_with(LEVEL, 33), example_with(RESERVED, 1)] {
+        let stopped = judge_link(&file).unwrap_err();
+        assert_eq!(stopped.to_string(), stopped.refusal.to_string());
+    }
+}
+
 #[test]
 fn refusals_say_what_was_wrong() {
     let not_net = twice().check(2).unwrap_err().to_string();
@@ -168,6 +204,6 @@ fn refusals_say_what_was_wrong() {
     let region: Box<dyn std::error::Error> = Box::new(Refusal::Region);
     assert_eq!(
         region.to_string(),
-        "refusal 10: an edge or an extent of the region is outside its limits"
+        "refusal 10: an edge or an extent of a region is outside its limits"
     );
 }

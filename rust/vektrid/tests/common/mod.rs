@@ -1,4 +1,4 @@
-//! The example file of document 01, and files with one of its fields changed.
+//! The example file of the requirements, and files with one of its fields changed.
 
 // Each test program uses a part of it.
 #![allow(dead_code)]
