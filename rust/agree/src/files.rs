@@ -1,10 +1,11 @@
-//! Region files, most of them damaged: their judgement, their visits and their listing.
+//! Region files, most of them damaged: their judgement and where it stopped, their visits and their
+//! listing.
 
 use reference::listing;
-use reference::region_file::{chain, visits};
+use reference::region_file::{self, chain, visits};
 use reference::trial::splitmix::Splitmix;
 use reference::trial::{files, shrink};
-use vektrid::{FileVisit, Refusal};
+use vektrid::{FileVisit, Refusal, Stopped};
 
 use crate::case::{simplified, Case};
 use crate::simpler::simpler_file;
@@ -18,6 +19,7 @@ pub struct RegionFile {
 #[derive(Debug, PartialEq)]
 pub struct Answer {
     judged: Result<(), Refusal>,
+    link: Result<(), Stopped>,
     visits: Result<Vec<FileVisit>, Refusal>,
     listing: Vec<u8>,
 }
@@ -36,12 +38,14 @@ impl Case for RegionFile {
         let chain = chain(&self.bytes).map_err(same::refusal);
         let visits = chain.map(|chain| visits(&chain).map(file_visit).collect::<Vec<_>>());
         let judged = visits.as_ref().map(|_| ()).map_err(|&refusal| refusal);
-        Answer { judged, visits, listing: listing::listing(&self.bytes) }
+        let link = region_file::judged(&self.bytes).map_err(stopped);
+        Answer { judged, link, visits, listing: listing::listing(&self.bytes) }
     }
 
     fn given(&self) -> Answer {
         Answer {
             judged: vektrid::judge(&self.bytes),
+            link: vektrid::judge_link(&self.bytes),
             visits: vektrid::visits(&self.bytes).map(Iterator::collect),
             listing: vektrid::listing(&self.bytes),
         }
@@ -62,18 +66,25 @@ impl Case for RegionFile {
     }
 
     fn test(&self) -> String {
-        let Answer { judged, visits, listing } = self.expected();
+        let Answer { judged, link, visits, listing } = self.expected();
         format!(
             "let file = {:?};\n\
              assert_eq!(judge(&file), {});\n\
+             assert_eq!(judge_link(&file), {});\n\
              assert_eq!(visits(&file).map(Iterator::collect::<Vec<_>>), {});\n\
              assert_eq!(listing(&file), b\"{}\");",
             self.bytes,
             text::answer(&judged),
+            text::link(&link),
             text::visits(&visits),
             listing.escape_ascii()
         )
     }
+}
+
+fn stopped(stopped: region_file::Stopped) -> Stopped {
+    let region_file::Stopped { refusal, holder, named } = stopped;
+    Stopped { refusal: same::refusal(refusal), holder, named }
 }
 
 /// Every position of the reference fits, for its regions have been judged.

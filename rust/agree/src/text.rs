@@ -2,7 +2,7 @@
 
 use std::fmt::Debug;
 
-use vektrid::{FileVisit, Refusal};
+use vektrid::{FileVisit, Refusal, Stopped};
 
 use crate::pairs::{standard, Words};
 
@@ -41,6 +41,16 @@ pub fn visits(visits: &Result<Vec<FileVisit>, Refusal>) -> String {
     }
 }
 
+/// The judgement of a file with the link at which it stopped.
+pub fn link(link: &Result<(), Stopped>) -> String {
+    match link {
+        Ok(()) => "Ok(())".to_string(),
+        Err(Stopped { refusal, holder, named }) => format!(
+            "Err(Stopped {{ refusal: Refusal::{refusal:?}, holder: {holder}, named: {named} }})"
+        ),
+    }
+}
+
 #[cfg(test)]
 mod tests {
     use super::*;
@@ -61,5 +71,9 @@ mod tests {
         let refused: Result<u32, Refusal> = Err(Refusal::NotNet { m: 2, a: 1, j: 2 });
         assert_eq!(answer(&refused), "Err(Refusal::NotNet { m: 2, a: 1, j: 2 })");
         assert_eq!(answer(&Ok::<u32, Refusal>(3)), "Ok(3)");
+        let stopped = Stopped { refusal: Refusal::MissingRecord, holder: 1, named: 5 };
+        let text = "Err(Stopped { refusal: Refusal::MissingRecord, holder: 1, named: 5 })";
+        assert_eq!(link(&Err(stopped)), text);
+        assert_eq!(link(&Ok(())), "Ok(())");
     }
 }
