@@ -1,7 +1,7 @@
-/* Tests of every call of include/vektrid.h: each refusal under its number, what a refused call leaves as it was, and document 01's known points
- * and example listing. C99, C11 and C++17 compile it; tests/c/run does, and runs it.
+/* Tests of every call of include/vektrid.h: each refusal under its number, what a refused call leaves as it was, and the known points and the
+ * example listing of the requirements. C99, C11 and C++17 compile it; tests/c/run does, and runs it.
  *
- * What is expected is 01's: its examples, or its definitions written out again here (column_of, point_of).
+ * What is expected comes from the requirements: their examples, or their definitions written out again here (column_of, point_of).
  */
 #include <stdio.h>
 #include <string.h>
@@ -30,7 +30,7 @@ static int check(int holds, const char *claim, const char *file, int line) {
 #define REFUSES(number, call) \
     ((void)(refused[number] += (unsigned)check((call) == (uint32_t)(number), #call " is refused under " #number, __FILE__, __LINE__)))
 
-/* ---- pairs and points by 01's definitions */
+/* ---- pairs and points by their definitions */
 
 static uint32_t standard[64], identities[64], zeros[64];
 
@@ -79,6 +79,10 @@ static void keep(uint32_t *words, size_t count) {
     for (size_t i = 0; i < count; i++)
         words[i] = KEPT;
 }
+
+/* ---- the interface */
+
+static void interface_number(void) { CHECK(vektrid_abi() == VEKTRID_ABI); }
 
 /* ---- pairs */
 
@@ -289,7 +293,7 @@ static void refused_queries(void) {
     REFUSES(6, vektrid_query(standard, 64, 0, 0, 32, 2, 1, 0, 2, 0, &out[0], &out[1]));
     REFUSES(7, vektrid_query(standard, 64, 0, 0, 32, 4, 2, 0, 0, 268435456u, &out[0], &out[1]));
     REFUSES(7, vektrid_query(standard, 64, 0, 0, 32, 32, 2, 0, 0, 1, &out[0], &out[1]));
-    /* from here each line makes one thing more wrong, and the first of 01's order is given */
+    /* from here each line makes one thing more wrong, and the first in the call's order is given */
     REFUSES(7, vektrid_query(identities, 64, 0, 0, 32, 4, 2, 0, 0, LAST, &out[0], &out[1]));
     REFUSES(6, vektrid_query(identities, 64, 0, 0, 32, 4, 2, 4, 0, LAST, &out[0], &out[1]));
     REFUSES(5, vektrid_query(identities, 64, 0, 0, 32, 4, 5, LAST, LAST, LAST, &out[0], &out[1]));
@@ -364,7 +368,7 @@ static void put(size_t at, uint32_t value) {
         file[at + (size_t)i] = (uint8_t)(value >> 8 * i);
 }
 
-/* 01's example: first record 1, level 2, and record 1 = 0, -500, 0, 1000, 800, 0, 0, 4. */
+/* The example of the requirements: first record 1, level 2, and record 1 = 0, -500, 0, 1000, 800, 0, 0, 4. */
 static void put_example(void) {
     static const uint32_t fields[8] = {0, (uint32_t)-500, 0, 1000, 800, 0, 0, 4};
     memset(file, 0, sizeof file);
@@ -376,48 +380,52 @@ static void put_example(void) {
 
 static const char *const example_listing = "record visit x y\n1 0 -500 0\n1 1 0 400\n1 2 -250 600\n1 3 250 200\n";
 
-/* The example with one field changed, and its answer; where that is a refusal, opening the file leaves the walk as it was. */
+/* The example with one field changed, its answer, and for a refusal the link at which the judgement stops. */
 struct change {
     size_t at;
     uint32_t value;
     size_t size;
-    uint32_t answer;
+    uint32_t answer, holder, named;
 };
 
 static const struct change changes[] = {
-    {0, 1, 64, 0},                    /* the example itself */
-    {0, 0, 64, 0},                    /* a chain without records */
-    {0, 0, 65536, 0},                 /* the longest file */
-    {4, 32, 64, 0},                   /* the largest level */
-    {36, 1000000, 64, 0},             /* the furthest left edge */
-    {60, 4096, 64, 0},                /* the most visits */
-    {0, 1, 40, 11},                   /* not whole records */
-    {0, 1, 0, 11},                    /* empty */
-    {0, 0, 65568, 11},                /* a record too long */
-    {4, 33, 64, 2},                   /* level */
-    {4, 0, 64, 2},                    /* level */
-    {8, 1, 64, 12},                   /* byte 8 */
-    {28, 0x01000000, 64, 12},         /* byte 31 */
-    {32, 5, 64, 13},                  /* next record */
-    {32, LAST, 64, 13},               /* next record */
-    {0, 2, 64, 13},                   /* first record */
-    {32, 1, 64, 14},                  /* next record */
-    {44, 0, 64, 10},                  /* width */
-    {48, 1000001, 64, 10},            /* height */
-    {36, 1000001, 64, 10},            /* left */
-    {40, (uint32_t)-1000001, 64, 10}, /* top */
-    {60, 4097, 64, 15},               /* visits */
-    {60, LAST, 64, 15},               /* visits */
+    {0, 1, 64, 0, KEPT, KEPT},              /* the example itself */
+    {0, 0, 64, 0, KEPT, KEPT},              /* a chain without records */
+    {0, 0, 65536, 0, KEPT, KEPT},           /* the longest file */
+    {4, 32, 64, 0, KEPT, KEPT},             /* the largest level */
+    {36, 1000000, 64, 0, KEPT, KEPT},       /* the furthest left edge */
+    {60, 4096, 64, 0, KEPT, KEPT},          /* the most visits */
+    {0, 1, 40, 11, 0, 0},                   /* not whole records */
+    {0, 1, 0, 11, 0, 0},                    /* empty */
+    {0, 0, 65568, 11, 0, 0},                /* a record too long */
+    {4, 33, 64, 2, 0, 0},                   /* level */
+    {4, 0, 64, 2, 0, 0},                    /* level */
+    {8, 1, 64, 12, 0, 0},                   /* byte 8 */
+    {28, 0x01000000, 64, 12, 0, 0},         /* byte 31 */
+    {32, 5, 64, 13, 1, 5},                  /* next record */
+    {32, LAST, 64, 13, 1, LAST},            /* next record */
+    {0, 2, 64, 13, 0, 2},                   /* first record */
+    {32, 1, 64, 14, 1, 1},                  /* next record */
+    {44, 0, 64, 10, 0, 1},                  /* width */
+    {48, 1000001, 64, 10, 0, 1},            /* height */
+    {36, 1000001, 64, 10, 0, 1},            /* left */
+    {40, (uint32_t)-1000001, 64, 10, 0, 1}, /* top */
+    {60, 4097, 64, 15, 0, 1},               /* visits */
+    {60, LAST, 64, 15, 0, 1},               /* visits */
 };
+
+/* An accepted file leaves both words of the link as they were, and a refused one leaves the words of the walk so. */
 
 static void files(void) {
     for (size_t i = 0; i < sizeof changes / sizeof changes[0]; i++) {
         vektrid_file_walk walk;
-        uint32_t answer = changes[i].answer;
+        uint32_t answer = changes[i].answer, holder = KEPT, named = KEPT;
         keep(walk.words, 11);
         put_example();
         put(changes[i].at, changes[i].value);
         refused[answer] += (unsigned)check(vektrid_judge(file, changes[i].size) == answer, "the file gets its answer", __FILE__, __LINE__);
+        CHECK(vektrid_judge_link(file, changes[i].size, &holder, &named) == answer);
+        CHECK(holder == changes[i].holder && named == changes[i].named);
         CHECK(vektrid_file_walk_open(file, changes[i].size, &walk) == answer);
         CHECK(answer == 0 || all_kept(walk.words, 11));
     }
@@ -439,6 +447,31 @@ static void order_of_files(void) {
     put(4, 0);
     REFUSES(2, vektrid_judge(file, 64));
     REFUSES(11, vektrid_judge(file, 63));
+}
+
+/* A chain through record 3, then 1, then 2, with one field of record 2 changed: its answer and the link. */
+static void links_of_files(void) {
+    static const struct change last[] = {
+        {64, 0, 128, 0, KEPT, KEPT}, /* the end of the chain */
+        {64, 9, 128, 13, 2, 9},      /* a record that is not there */
+        {64, 4, 128, 13, 2, 4},      /* the first number without a record */
+        {64, 3, 128, 14, 2, 3},      /* back to the first record of the chain */
+        {64, 2, 128, 14, 2, 2},      /* back to itself */
+        {76, 0, 128, 10, 1, 2},      /* its width */
+        {92, 4097, 128, 15, 1, 2},   /* its visits */
+    };
+    for (size_t i = 0; i < sizeof last / sizeof last[0]; i++) {
+        uint32_t holder = KEPT, named = KEPT;
+        put_example();
+        memcpy(file + 64, file + 32, 32);
+        memcpy(file + 96, file + 32, 32);
+        put(0, 3);
+        put(96, 1);
+        put(32, 2);
+        put(last[i].at, last[i].value);
+        CHECK(vektrid_judge_link(file, last[i].size, &holder, &named) == last[i].answer);
+        CHECK(holder == last[i].holder && named == last[i].named);
+    }
 }
 
 static void visits(void) {
@@ -555,6 +588,7 @@ static void any_content(void) {
 
 int main(void) {
     make_pairs();
+    interface_number();
     standard_pairs();
     checked_pairs();
     checked_strips();
@@ -575,6 +609,7 @@ int main(void) {
     positions();
     files();
     order_of_files();
+    links_of_files();
     visits();
     visits_of_none();
     listings();
