@@ -1,8 +1,8 @@
 #!/usr/bin/env python3
 """Tests of vektrid.py over the real library, with the standard library alone: python3 python/test_vektrid.py
 
-What is expected comes from document 01: its examples, or its definitions written out again here (columns, cells, singles as fractions). The tests
-that need numpy are skipped without it.
+What is expected comes from the requirements: their examples, or their definitions written out again here (columns, cells, singles as fractions).
+The tests that need numpy are skipped without it.
 """
 import _ctypes
 import array
@@ -38,18 +38,18 @@ LAST = 2**32 - 1
 SHIFTS = [(0, 0), (0x80000000, 0), (0x12345678, 0x9ABCDEF0), (LAST, LAST)]
 
 
-# ---- 01's definitions, once more
+# ---- the definitions of the requirements, once more
 
 
 def standard_words():
-    """01: X column c is 2^(31-c); Y has a one in row r, column c exactly when the binomial "c over r" is odd."""
+    """X column c is 2^(31-c); Y has a one in row r, column c exactly when the binomial "c over r" is odd."""
     x = [2**(31 - c) for c in range(32)]
     y = [sum(2**(31 - r) for r in range(32) if math.comb(c, r) % 2) for c in range(32)]
     return x + y
 
 
 def point_of(words, index, shift=(0, 0)):
-    """01: a coordinate is the exclusive or of the columns whose index bit is set, and then of that axis's scramble word."""
+    """A coordinate is the exclusive or of the columns whose index bit is set, and then of that axis's scramble word."""
     x, y = shift
     for bit in range(32):
         if index >> bit & 1:
@@ -58,7 +58,7 @@ def point_of(words, index, shift=(0, 0)):
 
 
 def cell_of(point, m, a):
-    """01: the column is the top a bits of the first coordinate, the row the top m-a bits of the second."""
+    """The column is the top a bits of the first coordinate, the row the top m-a bits of the second."""
     return point[0] >> (32 - a), point[1] >> (32 - (m - a))
 
 
@@ -93,7 +93,7 @@ IDENTITIES = vektrid.Pair(2 * STANDARD.words[:32])
 
 
 class RefusalTable(unittest.TestCase):
-    """Each example of 01's table raises its own class, with its number and the values that were given."""
+    """Each line of the refusal table raises its own class, with its number and the values that were given."""
 
     def refused(self, kind, number, values, call):
         with self.assertRaises(vektrid.Refusal) as caught:
@@ -160,22 +160,36 @@ class RefusalTable(unittest.TestCase):
                 self.refused(vektrid.RegionLimits, 10, [f'{name} = {value}'], lambda: vektrid.Region(*values))
 
     def test_10_to_15_files(self):
-        for kind, number, values, file in [
-                (vektrid.RegionLimits, 10, ['record 1', 'width = 0'], head(1, 2) + record(0, width=0)),
-                (vektrid.FileLength, 11, [40], EXAMPLE[:40]),
-                (vektrid.FileLength, 11, [0], b''),
-                (vektrid.FileLength, 11, [65568], head(0, 1) + bytes(65536)),
-                (vektrid.ReservedBytes, 12, ['byte 8', 'is 1'], head(1, 2, b'\1' + bytes(23)) + record(0)),
-                (vektrid.ReservedBytes, 12, ['byte 31', 'is 9'], head(1, 2, bytes(23) + b'\x09') + record(0)),
-                (vektrid.MissingRecord, 13, ['record 1', 'record 5'], head(1, 2) + record(5)),
-                (vektrid.MissingRecord, 13, ['record 0', 'record 2'], head(2, 2) + record(0)),
-                (vektrid.ChainReturns, 14, ['record 1 names record 1'], head(1, 2) + record(1)),
-                (vektrid.ChainReturns, 14, ['record 3 names record 2'], head(1, 2) + record(2) + record(3) + record(2)),
-                (vektrid.VisitCount, 15, ['record 1', 4097], head(1, 2) + record(0, count=4097))]:
+        wrong = dict(left=-1000001, top=5, width=6, height=7, count=4097)  # all different, so that the message must name each rightly
+        for kind, number, link, values, file in [
+                (vektrid.Level, 2, (0, 0), ['level = 33'], head(1, 33) + record(0)),
+                (vektrid.RegionLimits, 10, (0, 1), ['record 1', 'width = 0'], head(1, 2) + record(0, width=0)),
+                (vektrid.RegionLimits, 10, (3, 2), ['record 2', 'left = -1000001', 'top = 5', 'width = 6', 'height = 7'],
+                 head(3, 2) + record(0) + record(9, **wrong) + record(2)),
+                (vektrid.FileLength, 11, (0, 0), [40], EXAMPLE[:40]),
+                (vektrid.FileLength, 11, (0, 0), [0], b''),
+                (vektrid.FileLength, 11, (0, 0), [65568], head(0, 1) + bytes(65536)),
+                (vektrid.ReservedBytes, 12, (0, 0), ['byte 8', 'is 1'], head(1, 2, b'\1' + bytes(23)) + record(0)),
+                (vektrid.ReservedBytes, 12, (0, 0), ['byte 31', 'is 9'], head(1, 2, bytes(23) + b'\x09') + record(0)),
+                (vektrid.MissingRecord, 13, (1, 5), ['record 1', 'record 5', 'file is 1'], head(1, 2) + record(5)),
+                (vektrid.MissingRecord, 13, (0, 2), ['record 0', 'record 2', 'file is 1'], head(2, 2) + record(0)),
+                (vektrid.MissingRecord, 13, (0, LAST), ['record 0', LAST, 'file is 0'], head(LAST, 2)),
+                (vektrid.ChainReturns, 14, (1, 1), ['record 1 names record 1'], head(1, 2) + record(1)),
+                (vektrid.ChainReturns, 14, (3, 2), ['record 3 names record 2'], head(1, 2) + record(2) + record(3) + record(2)),
+                (vektrid.VisitCount, 15, (0, 1), ['record 1', 4097], head(1, 2) + record(0, count=4097)),
+                (vektrid.VisitCount, 15, (2, 1), ['record 1', LAST], head(2, 2) + record(9, count=LAST) + record(1))]:
             with self.subTest(number=number, file=file[:96]):
-                self.refused(kind, number, values, lambda: vektrid.judge(file))
-                self.refused(kind, number, values, lambda: vektrid.visits(file))  # at the call, not at the first visit
+                for call in (vektrid.judge, vektrid.visits):  # at the call, not at the first visit
+                    refusal = self.refused(kind, number, values, lambda: call(file))
+                    self.assertEqual((refusal.holder, refusal.named), link)
+                    copied = pickle.loads(pickle.dumps(refusal))
+                    self.assertEqual((copied.holder, copied.named), link)
                 self.assertEqual(vektrid.listing(file), f'refused {number}\n')
+
+    def test_no_link_without_a_file(self):
+        for kind, number, call in ((vektrid.Level, 2, lambda: STANDARD.check(33)), (vektrid.RegionLimits, 10, lambda: vektrid.Region(0, 0, 0, 1))):
+            refusal = self.refused(kind, number, [], call)
+            self.assertEqual((refusal.holder, refusal.named), (None, None))
 
     def test_one_class_for_each_number(self):
         self.assertEqual(sorted(kind.number for kind in vektrid.Refusal.__subclasses__()), list(range(1, 16)))
@@ -187,7 +201,7 @@ class RefusalTable(unittest.TestCase):
 
 
 class RefusalOrder(unittest.TestCase):
-    """Where several refusals apply, the first of 01's order is given."""
+    """Where several refusals apply, the first in the call's order is given."""
 
     def test_query(self):
         # from the last test to the first: each line makes one thing more wrong
@@ -214,7 +228,7 @@ class RefusalOrder(unittest.TestCase):
             self.assertEqual(caught.exception.number, number)
 
 
-# ---- 01's known points and wrong turns
+# ---- known points of the requirements, and wrong turns
 
 
 class KnownPoints(unittest.TestCase):
@@ -254,7 +268,7 @@ class KnownPoints(unittest.TestCase):
 
 
 class WrongTurns(unittest.TestCase):
-    """01's "Wrong turns near at hand"."""
+    """Mistakes that lie near at hand, each with a case that shows it."""
 
     def test_only_square_shapes_checked(self):
         # X without its column 1: the square (2, 1) is sound, and the strips of (2, 2) are not
@@ -279,7 +293,7 @@ class WrongTurns(unittest.TestCase):
         self.assertEqual(vektrid.Region(-1, 0, 3, 1).position(0x40000000, 0), (-1, 0))
 
 
-# ---- points, fills, walks, queries against 01's definitions
+# ---- points, fills, walks, queries against the definitions
 
 
 class Points(unittest.TestCase):
@@ -530,7 +544,7 @@ class UnitNumbers(unittest.TestCase):
             self.assertLessEqual(here, Fraction(word, 2**32))
             self.assertLess(Fraction(word, 2**32), above)
 
-    def test_single_falls_short_by_01s_bound_and_keeps_its_strip(self):
+    def test_single_falls_short_by_less_than_the_bound_and_keeps_its_strip(self):
         for word in self.words():
             zeros, value = 32 - word.bit_length(), Fraction(vektrid.single(word))
             short = word - value * 2**32
@@ -786,7 +800,8 @@ class Interface(unittest.TestCase):
         for answer, name, parameters in calls:
             call = getattr(vektrid._library, name)
             self.assertIs(call.restype, self.KINDS[answer])
-            self.assertEqual(call.argtypes, [self.kind(each.strip()) for each in parameters.split(',')], name)
+            declared = [each.strip() for each in parameters.split(',') if each != 'void']
+            self.assertEqual(call.argtypes, [self.kind(each) for each in declared], name)
 
     def test_structures(self):
         sizes = dict((name, int(size)) for size, name in re.findall(r'uint32_t words\[(\d+)\];\s*\} (\w+);', header()))
@@ -837,6 +852,22 @@ class Interface(unittest.TestCase):
             os.mkdir(target)
             shutil.move(beside, target)
             self.assertEqual(self.python(program, folder).stdout, '2147483648\n')
+
+    def test_numbers(self):
+        self.assertEqual(re.findall(r'^#define VEKTRID_ABI (\d+)$', header(), flags=re.M), [str(vektrid.ABI)])
+        self.assertEqual(vektrid._library.vektrid_abi(), vektrid.ABI)
+        with open(os.path.join(ROOT, 'rust', 'vektrid', 'Cargo.toml'), encoding='utf-8') as file:
+            self.assertEqual(re.findall(r'^version = "(.*)"$', file.read(), flags=re.M), [vektrid.__version__])
+
+    @unittest.skipUnless(shutil.which('gcc'), 'gcc is not installed: no library of another interface can be made')
+    def test_library_of_another_interface(self):
+        for code, found in (('#include <stdint.h>\nuint32_t vektrid_abi(void) { return 2; }', 'has interface 2'),
+                            ('int other(void) { return 1; }', 'has no interface number')):
+            with tempfile.TemporaryDirectory() as folder:
+                path = os.path.join(folder, 'other.so')
+                subprocess.run(['gcc', '-shared', '-fPIC', '-x', 'c', '-o', path, '-'], input=code, universal_newlines=True, check=True)
+                said = self.python('import vektrid', HERE, VEKTRID_LIBRARY=path).stderr.splitlines()[-1]
+            self.assertRegex(said, f'^ImportError: .*{re.escape(path)} {found}.* is for interface {vektrid.ABI}: run tools/archive')
 
     def test_another_library(self):
         for path in (vektrid.__file__, HERE, _ctypes.__file__):  # no library, a folder, and a library without the calls

@@ -3,11 +3,13 @@
 Every answer comes from the proved library, target/libvektrid.so (tools/archive makes it; its C interface is include/vektrid.h). This file only
 converts: it keeps from the library what the proofs assume cannot happen (a number that does not fit, a pointer to nothing, buffers that overlap).
 
-A call that document 01 refuses raises the subclass of Refusal for that refusal, and lent buffers keep their content. A number that is no whole
-number raises TypeError, and one that has no place in the library's 32 or 64 bits raises ValueError; nothing is cut or rounded to fit.
+A refused call raises the subclass of Refusal for its line of the refusal table (docs/REFUSALS.md), and lent buffers keep their content. A number
+that is no whole number raises TypeError, and one that has no place in the library's 32 or 64 bits raises ValueError; nothing is cut or rounded
+to fit.
 
-The field's words stand first and 01's beside them: generator matrices (pair), digital shift (scramble), elementary interval (cell), cursor (walk).
-A word is a whole number from 0 to 2^32 - 1; a coordinate word w stands for w / 2^32. Only the standard library is needed; numpy is used if asked for.
+The field's words stand first and the planner's own behind in brackets: generator matrices (pair), digital shift (scramble), elementary interval
+(cell), cursor (walk). A word is a whole number from 0 to 2^32 - 1; a coordinate word w stands for w / 2^32. Only the standard library is needed;
+numpy is used if asked for.
 
 >>> import vektrid
 >>> pair = vektrid.Pair.standard()
@@ -29,23 +31,33 @@ import struct
 import sys
 from typing import NamedTuple
 
-__all__ = ['Refusal', 'WordCount', 'Level', 'NotNet', 'Size', 'Shape', 'Cell', 'Block', 'BufferLengths', 'IndexRange', 'RegionLimits',
+__all__ = ['ABI', 'Refusal', 'WordCount', 'Level', 'NotNet', 'Size', 'Shape', 'Cell', 'Block', 'BufferLengths', 'IndexRange', 'RegionLimits',
            'FileLength', 'ReservedBytes', 'MissingRecord', 'ChainReturns', 'VisitCount', 'Point', 'Singles', 'Visit', 'SinglesVisit', 'Position',
            'FileVisit', 'Pair', 'Walk', 'SinglesWalk', 'Region', 'standard_point', 'double', 'single', 'judge', 'visits', 'listing',
            'listing_pieces', 'LARGEST_LEVEL', 'LAST_INDEX', 'LONGEST_LINE']
+
+__version__ = '1.0.0'  # of the bindings; rust/vektrid has the same
+ABI = 1  # the number of the interface that this file is written for: VEKTRID_ABI of the header
 
 LARGEST_LEVEL = 32
 LAST_INDEX = 2**32 - 1  # and the largest word
 LONGEST_LINE = 46  # bytes of the longest line of a listing: a piece must have room for it
 
 
-# ---- refusals: one class for each line of document 01's table
+# ---- refusals: one class for each line of docs/REFUSALS.md, against which tools/refusals holds the number and the first line of each
 
 
 class Refusal(ValueError):
-    """A call that document 01 refuses. `number` is its number in 01's table, `given` the values that the message names."""
+    """A refused call. `number` is its number in the refusal table (docs/REFUSALS.md), `given` has the values that the message names.
+
+    Of a refused file, `holder` is the record that holds the link at which the judgement stopped and `named` the number that this link names; both
+    are 0 where the refusal concerns no link (FileLength, Level, ReservedBytes). Of any other refused call both are None.
+    """
     number = 0
     words = ''
+
+    holder = property(lambda self: self.given.get('holder'), doc='The record that holds the link at which the judgement of a file stopped, or None.')
+    named = property(lambda self: self.given.get('named'), doc='The number that this link names, or None.')
 
     def __init__(self, **given):
         super().__init__(f'refusal {self.number}: ' + self.words.format(**given))
@@ -56,7 +68,7 @@ class Refusal(ValueError):
 
 
 class WordCount(Refusal):
-    """1: a pair of generator matrices is not 64 words."""
+    """1: a pair is not 64 words."""
     number = 1
     words = 'a pair has 64 words (32 columns of X, then 32 of Y), and {count} were given'
 
@@ -68,7 +80,10 @@ class Level(Refusal):
 
 
 class NotNet(Refusal):
-    """3: the matrices are no net. (m, a) is the shape whose determinant is even; j is the least index above 0 in the cell of index 0."""
+    """3: not a net.
+
+    (m, a) is the shape whose determinant is even; j is the least index above 0 in the cell of index 0.
+    """
     number = 3
     words = 'not a net: in the shape (m, a) = ({m}, {a}) the point of index j = {j} shares the cell of index 0'
 
@@ -90,25 +105,34 @@ class Shape(Refusal):
 
 
 class Cell(Refusal):
-    """6: an elementary interval (01: cell) is outside its shape: column >= 2^a or row >= 2^(m-a)."""
+    """6: the column or the row is outside the shape.
+
+    The shape (m, a) has 2^a columns and 2^(m-a) rows of elementary intervals (cells), each counted from 0.
+    """
     number = 6
     words = 'column = {column}, row = {row} is no cell of the shape (m, a) = ({m}, {a}), which has 2^{a} columns and 2^{rest} rows'
 
 
 class Block(Refusal):
-    """7: a block is past the last one: block >= 2^(32-m)."""
+    """7: the block lies beyond the last index.
+
+    There are 2^(32-m) blocks of 2^m visits, counted from 0.
+    """
     number = 7
     words = 'block = {block} is past the last block of 2^{m} visits: there are 2^{rest}, from 0 on'
 
 
 class BufferLengths(Refusal):
-    """8: two lent buffers differ in length."""
+    """8: two buffers differ in length."""
     number = 8
     words = 'xs has {xs} words and ys has {ys}; the lengths must be equal'
 
 
 class IndexRange(Refusal):
-    """9: start + count is above 2^32, so the visits would go past the last index."""
+    """9: start + count is above 2^32.
+
+    The visits would go past the last index.
+    """
     number = 9
     words = 'start = {start} and count = {count} go past the last index, 4294967295'
 
@@ -121,33 +145,33 @@ class RegionLimits(Refusal):
 
 
 class FileLength(Refusal):
-    """11: a region file is empty, over 65,536 bytes, or not whole records of 32 bytes."""
+    """11: a file is empty, over 65,536 bytes, or not whole records of 32 bytes."""
     number = 11
     words = 'a file of {size} bytes is no region file: it has whole records of 32 bytes, at least one, and at most 65536 bytes'
 
 
 class ReservedBytes(Refusal):
-    """12: bytes 8 to 31 of record 0 of a region file are not all zero."""
+    """12: bytes 8 to 31 of record 0 are not all zero."""
     number = 12
     words = 'byte {place} of record 0 is {byte}; bytes 8 to 31 must be 0'
 
 
 class MissingRecord(Refusal):
-    """13: the chain of a region file names a record that the file lacks."""
+    """13: the chain names a record that the file lacks."""
     number = 13
-    words = 'record {at} names record {link} as the next of the chain, and the last record of the file is {last}'
+    words = 'record {holder} names record {named} as the next of the chain, and the last record of the file is {last}'
 
 
 class ChainReturns(Refusal):
-    """14: the chain of a region file returns to a record."""
+    """14: the chain returns to a record."""
     number = 14
-    words = 'record {at} names record {link} as the next of the chain, which has been there already'
+    words = 'record {holder} names record {named} as the next of the chain, which has been there already'
 
 
 class VisitCount(Refusal):
-    """15: a record of a region file has more than 4,096 visits."""
+    """15: a record has more than 4,096 visits."""
     number = 15
-    words = 'record {link} has {count} visits; at most 4096 are allowed'
+    words = 'record {named} has {count} visits; at most 4096 are allowed'
 
 
 _REFUSALS = {kind.number: kind for kind in Refusal.__subclasses__()}
@@ -227,6 +251,7 @@ _PAIR = [_TO_WORD, _SIZE, _WORD, _WORD]  # the words, how many, and the two word
 
 # For each call of include/vektrid.h: the type of its answer, and those of its arguments.
 _CALLS = {
+    'vektrid_abi': (_WORD, []),
     'vektrid_standard_pair': (_WORD, [_TO_WORD, _SIZE]),
     'vektrid_check': (_WORD, [_TO_WORD, _SIZE, _WORD] + 3 * [_TO_WORD]),
     'vektrid_point': (_WORD, _PAIR + [_WORD, _TO_WORD, _TO_WORD]),
@@ -241,6 +266,7 @@ _CALLS = {
     'vektrid_point_singles': (_WORD, _PAIR + [_WORD, _TO_SINGLE, _TO_SINGLE]),
     'vektrid_position': (_WORD, [_SIGNED, _SIGNED] + 4 * [_WORD] + [_TO_SIGNED, _TO_SIGNED]),
     'vektrid_judge': (_WORD, _FILE),
+    'vektrid_judge_link': (_WORD, _FILE + [_TO_WORD, _TO_WORD]),
     'vektrid_file_walk_open': (_WORD, _FILE + [ctypes.POINTER(_FileWalk)]),
     'vektrid_file_walk_step': (None, _FILE + [ctypes.POINTER(_FileWalk)] + 3 * [_TO_WORD] + 2 * [_TO_SIGNED]),
     'vektrid_listing_open': (None, _FILE + [ctypes.POINTER(_Cursor)]),
@@ -262,11 +288,29 @@ def _library_path():
                       'run tools/archive in the repository, or set VEKTRID_LIBRARY to where it is')
 
 
+def _number(library):
+    """The number of a library's interface, or None where the library lacks the call that answers it."""
+    call = getattr(library, 'vektrid_abi', None)
+    if call is None:
+        return None
+    call.restype, call.argtypes = _CALLS['vektrid_abi']
+    return call()
+
+
+def _compare(path, number):
+    """Refuses a library of another interface: its calls may take other arguments, and ctypes cannot tell."""
+    if number != ABI:
+        found = 'no interface number (it lacks vektrid_abi)' if number is None else f'interface {number}'
+        raise ImportError(f'Vektrid\'s library {path} has {found}, and this vektrid.py is for interface {ABI}: '
+                          'run tools/archive in the repository that this file is from, which makes the library for it')
+
+
 def _load():
-    """The library, each call with its types."""
+    """The library, its number compared before each call gets its types."""
     path = _library_path()
     try:
         library = ctypes.CDLL(os.path.abspath(path))
+        _compare(path, _number(library))
         for name, (answer, arguments) in _CALLS.items():
             call = getattr(library, name)
             call.restype, call.argtypes = answer, arguments
@@ -350,10 +394,10 @@ def _content(file):
 
 
 class Pair:
-    """Two generator matrices (01: pair), copied from 64 words: the 32 columns of X, then those of Y. Never changes.
+    """Two generator matrices (pair), copied from 64 words: the 32 columns of X, then those of Y. Never changes.
 
     Column c belongs to index bit c, and the top bit of a word is row 0. A coordinate of an index is the exclusive or of the columns whose
-    index bit is set, and then of that axis's word of the digital shift (01: scramble). Points, fills and walks take any matrices, checked or not.
+    index bit is set, and then of that axis's word of the digital shift (scramble). Points, fills and walks take any matrices, checked or not.
 
     Refused: WordCount.
     """
@@ -393,7 +437,7 @@ class Pair:
         return (self._words, len(self._words)) + _shift(shift)
 
     def check(self, level):
-        """Passes if every block of 2^m visits, m up to the level, is a net: one visit in every elementary interval (01: cell) of every shape.
+        """Passes if every block of 2^m visits, m up to the level, is a net: one visit in every elementary interval (cell) of every shape.
 
         Gives None. Refused: Level; NotNet, with the first bad shape (m, a), m rising and then a rising, and its least index j.
         """
@@ -409,7 +453,7 @@ class Pair:
         return x.value, y.value
 
     def point(self, index, shift=(0, 0)):
-        """The Point of an index under a digital shift (01: scramble): two coordinate words. The index is 0 to 2^32 - 1. Nothing is refused."""
+        """The Point of an index under a digital shift (scramble): two coordinate words. The index is 0 to 2^32 - 1. Nothing is refused."""
         return Point(*self._point(_library.vektrid_point, ctypes.c_uint32, index, shift))
 
     def point_singles(self, index, shift=(0, 0)):
@@ -462,7 +506,7 @@ class Pair:
         return SinglesWalk(self, start, count, shift)
 
     def query(self, level, m, a, column, row, block, shift=(0, 0)):
-        """The one index of a block whose point lies in an elementary interval (01: cell). Gives an int.
+        """The one index of a block whose point lies in an elementary interval (cell). Gives an int.
 
         The shape (m, a) has 2^a columns and 2^(m-a) rows. A point's column is the top a bits of its x, its row the top m-a bits of its y.
         Block k has the indexes from k * 2^m to (k+1) * 2^m - 1. The level only bounds m; the pair need not be checked before.
@@ -480,7 +524,7 @@ class Pair:
 
 
 class Walk:
-    """A cursor over visits (01: walk), made by Pair.walk: an iterator of Visit, from the start index on.
+    """A cursor over visits (walk), made by Pair.walk: an iterator of Visit, from the start index on.
 
     `next` is the index of the next visit and `left` how many visits are left. pair.walk(walk.next, walk.left, shift) goes on from there.
     """
@@ -535,7 +579,7 @@ class Walk:
 
 
 class SinglesWalk(Walk):
-    """A cursor over visits (01: walk), made by Pair.walk_singles: an iterator of SinglesVisit."""
+    """A cursor over visits (walk), made by Pair.walk_singles: an iterator of SinglesVisit."""
     __slots__ = ()
 
     def __next__(self):
@@ -593,39 +637,34 @@ class Region(collections.namedtuple('Region', 'left top width height')):
 # ---- region files
 
 
-def _chain_fault(number, file):
-    """Where on the chain of a refused file the refusal applies, for its message: the library has judged, and this looks for the record."""
-    records = len(file) // 32
-    at, link, count, seen = 0, struct.unpack_from('<I', file)[0], 0, set()
-    region = dict.fromkeys(Region._fields, 0)
-    while 0 < link < records and link not in seen:
-        seen.add(link)
-        following, left, top, width, height, _, _, count = struct.unpack_from('<IiiIIIII', file, 32 * link)
-        region = dict(left=left, top=top, width=width, height=height)
-        outside = _library.vektrid_position(left, top, width, height, 0, 0, ctypes.c_int32(), ctypes.c_int32())
-        if (number == RegionLimits.number and outside) or (number == VisitCount.number and count > 4096):
-            break
-        at, link = link, following
-    return dict(at=at, link=link, last=records - 1, count=count, where=f'record {link}: ', **region)
+def _read_for(number, file, named):
+    """What the message of a refused file shows of its content. The library has judged it; this only reads."""
+    if number == FileLength.number:
+        return dict(size=len(file))
+    if number == Level.number:
+        return dict(level=struct.unpack_from('<I', file, 4)[0])
+    if number == ReservedBytes.number:
+        place = next(place for place in range(8, 32) if file[place])
+        return dict(place=place, byte=file[place])
+    if number == MissingRecord.number:
+        return dict(last=len(file) // 32 - 1)
+    _, left, top, width, height, _, _, count = struct.unpack_from('<IiiIIIII', file, 32 * named)
+    return dict(where=f'record {named}: ', left=left, top=top, width=width, height=height, count=count)
 
 
 def _accept_file(number, file):
-    """Raises the refusal of a file, with the values that it is about."""
-    if number == FileLength.number:
-        _accept(number, size=len(file))
-    elif number == Level.number:
-        _accept(number, level=struct.unpack_from('<I', file, 4)[0])
-    elif number == ReservedBytes.number:
-        place = next(place for place in range(8, 32) if file[place])
-        _accept(number, place=place, byte=file[place])
-    elif number:
-        _accept(number, **_chain_fault(number, file))
+    """Raises the refusal that a call answered for a file, if it is one, with the link at which the judgement stopped."""
+    if number:
+        holder, named = ctypes.c_uint32(), ctypes.c_uint32()
+        _library.vektrid_judge_link(file, len(file), holder, named)
+        _accept(number, holder=holder.value, named=named.value, **_read_for(number, file, named.value))
 
 
 def judge(file):
     """Judges a whole region file, given as bytes. Gives None.
 
-    Refused: FileLength, Level, ReservedBytes, then at each link of the chain MissingRecord, ChainReturns, RegionLimits, VisitCount.
+    Refused: FileLength, Level, ReservedBytes, then at each link of the chain MissingRecord, ChainReturns, RegionLimits, VisitCount; each with
+    `holder` and `named`, the link at which the judgement stopped.
     """
     file = _content(file)
     _accept_file(_library.vektrid_judge(file, len(file)), file)
