@@ -166,7 +166,8 @@ returns-2 c =
       sym (chain-end no-further-tests (now (a .file)) (free (i .marks)) (free-some (i .marks) (i .inv .0) (i .inv .1)) (marked (i .marks)) (i .n)
           (c .loop-test .left))
           ∙ i .inv .4,
-      sym (stop-end no-further-tests (now (a .file)) (marked (i .marks)) (from (i .holder) (i .n)) (free (i .marks)) (c .loop-test .left)) ∙ i .inv .5,
+      sym (stop-end no-further-tests (now (a .file)) (marked (i .marks)) (from (i .holder) (i .n)) (free (i .marks)) (c .loop-test .left))
+          ∙ i .inv .5,
     )
 
 pub judge-chain-spec : {M : Type 1} → statement M

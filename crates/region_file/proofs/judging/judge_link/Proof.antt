@@ -28,7 +28,8 @@ refused-head-requires c κs = search needs
 returns : tie.Need-returns
 returns c =
     let a = c .before .before .before .before .args in
-    let h = head-refused no-further-tests (now (a .file)) (first-refuses _ 11 _ (sym (ap not (c .before .before .is-whole .ensures)) ∙ c .before .if1 .taken)) in
+    let e = sym (ap not (c .before .before .is-whole .ensures)) ∙ c .before .if1 .taken in
+    let h = head-refused no-further-tests (now (a .file)) (first-refuses _ 11 _ e) in
     (c .refused-head .ensures .0 ∙ sym (h .0), c .refused-head .ensures .1 ∙ sym (h .1))
 
 field-requires : tie.Need-field-requires

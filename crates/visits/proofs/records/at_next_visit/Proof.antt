@@ -19,7 +19,8 @@ use Rattle.visits.proofs.records.at_next_visit.Statement.{statement}
 use Rattle.visits.proofs.records.at_next_visit.Tie as tie
 
 abbrev Inv-loop : tie.InvT-loop
-Inv-loop file start links n₀ left₀ n left = (n < 2 ^ 32) × (left ≤ most-records) × (visits-from file left n ≡ visits-from file (links-counted links) start)
+Inv-loop file start links n₀ left₀ n left =
+    (n < 2 ^ 32) × (left ≤ most-records) × (visits-from file left n ≡ visits-from file (links-counted links) start)
 
 abbrev μ-loop : tie.MeasureT-loop
 μ-loop file start links n₀ left₀ n left = left
@@ -40,18 +41,19 @@ ended-requires : tie.Need-ended-requires Inv-loop μ-loop
 ended-requires c κs = search needs
 
 -- a walk that has ended, where nothing is to come
-none : (file : List ℕ) (start links : ℕ) (p : FileWalk) → p ≡ ended-walk → visits-from file (links-counted links) start ≡ [] → AtNextVisit file start links p
+none : (file : List ℕ) (start links : ℕ) (p : FileWalk) → p ≡ ended-walk → visits-from file (links-counted links) start ≡ []
+    → AtNextVisit file start links p
 none file start links p e h =
     let c = ap (visits-to-come file) e ∙ ended-comes file in
     record { same = c ∙ sym h; ready = inr c }
 
 returns : tie.Need-returns Inv-loop μ-loop
 returns c =
-    let file = now (c .before .before .before .before .before .before .before .args .file) in
+    let a = c .before .before .before .before .before .before .before .args in
+    let file = now (a .file) in
     let i = c .before .before .before .before .loop in
     let e = visits-from-stop file (i .left) (i .n) (sym (c .before .before .listable .ensures) ∙ not-true _ (c .before .if1 .taken)) in
-    none file (c .before .before .before .before .before .before .before .args .start) (c .before .before .before .before .before .before .before .args .links)
-    (c .ended .result) (c .ended .ensures) (sym (i .inv .2) ∙ e)
+    none file (a .start) (a .links) (c .ended .result) (c .ended .ensures) (sym (i .inv .2) ∙ e)
 
 sub-left : tie.Need-sub-left Inv-loop μ-loop
 sub-left c = search needs
@@ -90,9 +92,10 @@ ended-requires-2 c κs = search needs
 
 returns-3 : tie.Need-returns-3 Inv-loop μ-loop
 returns-3 c =
-    let file = now (c .before .before .before .before .before .args .file) in
+    let a = c .before .before .before .before .before .args in
+    let file = now (a .file) in
     let i = c .before .before .loop in
-    none file (c .before .before .before .before .before .args .start) (c .before .before .before .before .before .args .links) (c .ended2 .result)
+    none file (a .start) (a .links) (c .ended2 .result)
     (c .ended2 .ensures) (sym (i .inv .2) ∙ visits-from-none file (i .left) (i .n) (c .before .loop-test .left))
 
 pub at-next-visit-spec : {M : Type 1} → statement M
