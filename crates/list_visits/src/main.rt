@@ -1,48 +1,48 @@
-// Lists the visits of the region file on standard input, or prints its refusal.
+// Lists the visits of the region file on standard input, or prints its refusal. Standard output has the listing and nothing else; what went
+// wrong is said on standard error.
+mod streams;
+mod transfers;
+mod words;
+
 use libc::STDIN_FILENO;
 use libc::STDOUT_FILENO;
 use listing::Cursor;
-ghost use Rattle.text.specs.Pieces.{Counts};
+ghost use Rattle.list_visits.specs.Listed.{Tells};
+
+// Whether the whole listing was written, with the number of bytes that the system took (modulo 2^64, which no listing reaches).
+pub enum Listed {
+    Whole(u64),
+    Cut,
+}
 
 // One byte more than the longest file, so that a longer one is seen.
 fn main() {
     let mut file = [0u8; 65537];
-    let n = read_all(STDIN_FILENO, &mut file);
-    list(&file[..n]);
-}
-
-// Reads until the buffer is full or the input ends. A read that fails leaves no whole file: 0 bytes, which are refused.
-fn read_all(fd: i32, buffer: &mut [u8]) -> usize
-    ensures { λ r. ⌜ Counts r (now (buffer .exit)) ⌝ }
-{
-    let mut done: usize = 0;
-    while done < buffer.len() {
-        let got = libc::read(fd, &mut buffer[done..]);
-        if got < 0 {
-            return 0;
-        }
-        let more = io::count(got, &buffer[done..]);
-        if more == 0 {
-            return done;
-        }
-        done += more;
+    let n = streams::read_all(STDIN_FILENO, &mut file);
+    let listed = list(&file[..n]);
+    if let Listed::Cut = listed {
+        words::cannot_write();
     }
-    done
 }
 
 // Writes the listing, a full buffer at a time, until nothing is to come or a write fails.
-fn list(file: &[u8]) {
+fn list(file: &[u8]) -> Listed
+    ensures { λ r. ⌜ Tells (now (file .entry)) r ⌝ }
+{
     let mut space = io::large_buffer();
     let mut cursor = Cursor::open(file);
+    let mut taken: u64 = 0;
     loop {
         let piece = cursor.piece(file, &mut space);
         let len = piece.len;
         if len == 0 {
-            return;
+            return Listed::Whole(taken);
         }
-        if !io::write_all(STDOUT_FILENO, &space[..len]) {
-            return;
+        let put = streams::write_all(STDOUT_FILENO, &space[..len]);
+        if put < len {
+            return Listed::Cut;
         }
+        taken = std::num::wrapping_add_u64(taken, put as u64);
         let next = piece.next;
         cursor = next;
     }
