@@ -23,6 +23,7 @@ fn main() {
     if let Listed::Cut = listed {
         words::cannot_write();
     }
+    say_link(&file[..n]);
 }
 
 // Writes the listing, a full buffer at a time, until nothing is to come or a write fails.
@@ -45,5 +46,15 @@ fn list(file: &[u8]) -> Listed
         taken = std::num::wrapping_add_u64(taken, put as u64);
         let next = piece.next;
         cursor = next;
+    }
+}
+
+// Says at which link the file is refused. A link that names 0 ends the chain and is never refused; of a file that is refused for its length or
+// its record 0, judge_link gives none either.
+fn say_link(file: &[u8]) {
+    let judged = region_file::judge_link(file);
+    let link = judged.link;
+    if link.named > 0 {
+        words::names(link);
     }
 }
