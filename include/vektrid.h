@@ -3,8 +3,8 @@
  * Every call answers any numbers; none traps, prints or keeps anything. An answer of type uint32_t, other than that of vektrid_abi, is 0 or the
  * number of a refusal (enum vektrid_refusal). A refused call leaves every lent word and buffer as it was, but for the values that refusal 3 gives,
  * and where vektrid_judge_link stopped. What the proofs ask of the caller, since C cannot say it: no pointer is null (not even with a length of
- * 0), each points to aligned memory of its type, each buffer has the length given beside it, and what one call writes does not overlap anything
- * else that is lent to that call.
+ * 0), each points to aligned memory of its type that holds some value, each buffer has the length given beside it, and what one call writes does
+ * not overlap anything else that is lent to that call.
  *
  * A pair (two generator matrices) is 64 words: the 32 columns of X, then those of Y; column c belongs to index bit c, and the top bit of a
  * word is row 0. shift_x and shift_y are the scramble (a digital shift), one word for each axis.
