@@ -1,4 +1,4 @@
--- What the program knows of a listing that it has written.
+-- What the answer of `list` means.
 use mathlib.Core.Path.{_≡_}
 use mathlib.Core.List.{List}
 use Prim.Native.Nat.{ℕ, _%_, _^_}
@@ -7,7 +7,8 @@ use Rattle.listing.specs.Listing.{listing}
 use Rattle.list_visits.specs.declared.Listed.{Listed}
 use Rattle.list_visits.specs.declared.Listed.the-variants as listed
 
--- a listing counts as whole only where the system took as many bytes as it has (counted modulo 2^64, more than any listing has)
-abbrev pub Tells : List ℕ → Listed → Type 0
-Tells file (listed.Whole n) = n ≡ length (listing file) % 2 ^ 64
-Tells file listed.Cut = Unit
+-- Whole: the calls of write took as many bytes as the listing has. They are counted modulo 2^64; a file has at most 2,047 times 4,096 visits,
+-- each on a line of at most 46 bytes. Cut: nothing is said.
+abbrev pub AllTaken : List ℕ → Listed → Type 0
+AllTaken file (listed.Whole n) = n ≡ length (listing file) % 2 ^ 64
+AllTaken file listed.Cut = Unit

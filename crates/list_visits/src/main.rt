@@ -7,9 +7,9 @@ mod words;
 use libc::STDIN_FILENO;
 use libc::STDOUT_FILENO;
 use listing::Cursor;
-ghost use Rattle.list_visits.specs.Listed.{Tells};
+ghost use Rattle.list_visits.specs.Listed.{AllTaken};
 
-// Whether the whole listing was written, with the number of bytes that the system took (modulo 2^64, which no listing reaches).
+// Whether all of a listing was written; and then the number of its bytes that the system took.
 pub enum Listed {
     Whole(u64),
     Cut,
@@ -26,9 +26,10 @@ fn main() {
     say_link(&file[..n]);
 }
 
-// Writes the listing, a full buffer at a time, until nothing is to come or a write fails.
+// Writes the listing, a full buffer at a time, until nothing is to come or a write fails. It is whole only where the system took as many bytes as
+// it has; of one that is cut short `main` speaks, so that this loop has no silent end.
 fn list(file: &[u8]) -> Listed
-    ensures { λ r. ⌜ Tells (now (file .entry)) r ⌝ }
+    ensures { λ r. ⌜ AllTaken (now (file .entry)) r ⌝ }
 {
     let mut space = io::large_buffer();
     let mut cursor = Cursor::open(file);
@@ -49,8 +50,8 @@ fn list(file: &[u8]) -> Listed
     }
 }
 
-// Says at which link the file is refused. A link that names 0 ends the chain and is never refused; of a file that is refused for its length or
-// its record 0, judge_link gives none either.
+// Says at which link the file is refused, if it is refused at one. A link that names 0 ends the chain and is never refused; where the tests of the
+// file and its record 0 refuse it, judge_link names 0 too.
 fn say_link(file: &[u8]) {
     let judged = region_file::judge_link(file);
     let link = judged.link;

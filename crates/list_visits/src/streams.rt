@@ -9,10 +9,10 @@ ghost use Rattle.text.specs.Pieces.{Counts};
 ghost use Rattle.list_visits.specs.Transfer.{MovesAtMost};
 
 // A proved loop has to end, and nothing says that whoever is at the other end of a pipe goes on. So each loop counts its calls down, from a
-// number that no run uses up: where a call would wait, it is made again for as long as the system would wait.
+// number that no run uses up: where a call would block, it is made again for as long as the system itself would wait.
 const MOST_CALLS: u64 = u64::MAX;
 
-// Reads until the buffer is full or the input ends. A read that fails leaves no whole file: 0 bytes, which are refused.
+// Reads until the buffer is full or the input ends. A read that fails leaves no whole file, whatever came before it: 0 bytes, which are refused.
 pub(crate) fn read_all(fd: i32, buffer: &mut [u8]) -> usize
     ensures { λ r. ⌜ Counts r (now (buffer .exit)) ⌝ }
 {

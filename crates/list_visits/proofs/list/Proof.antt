@@ -5,11 +5,11 @@ use mathlib.Core.List.{List}
 use Prim.Native.Nat.{ℕ, _+_, _≤_, _<_, _%_, _^_}
 use native.Mathlib.Omega.{arith}
 use borrow.Author.Needs.{needs}
-use denote.Ref.{now}
 use lib.ListN.{length, take, length-append}
+use Rattle.text.specs.Pieces.{Piece}
 use Rattle.listing.specs.declared.cursors.Cursor.{Cursor}
 use Rattle.listing.specs.Listing.{listing, longest-line}
-use Rattle.listing.specs.Cursor.{to-come, ListingPiece}
+use Rattle.listing.specs.Cursor.{to-come}
 use Rattle.list_visits.proofs.list.Statement.{statement}
 use Rattle.list_visits.proofs.list.Tie as tie
 
@@ -21,16 +21,16 @@ abbrev μ-loop : tie.MeasureT-loop
 μ-loop file space₀ cursor₀ taken₀ space cursor taken = length (to-come file cursor)
 
 -- a piece and what is to come behind it are as long as what was to come
-lengths : (file : List ℕ) (c d : Cursor) (piece : List ℕ) (room : ℕ) → ListingPiece file c d piece room
-    → length piece + length (to-come file d) ≡ length (to-come file c)
-lengths file c d piece room p = sym (length-append piece (to-come file d)) ∙ ap length (p .joins)
+lengths : {to-come : Cursor → List ℕ} {w : ℕ} {c d : Cursor} {piece : List ℕ} {room : ℕ} → Piece to-come w c d piece room
+    → length piece + length (to-come d) ≡ length (to-come c)
+lengths {to-come = to-come} {d = d} {piece = piece} p = sym (length-append piece (to-come d)) ∙ ap length (p .joins)
 
 -- before an empty piece in a buffer with room for a line, nothing was to come
-ended : (file : List ℕ) (c d : Cursor) (piece : List ℕ) (room : ℕ) → ListingPiece file c d piece room
-    → length piece ≡ 0 → longest-line ≤ room → length (to-come file c) ≡ 0
-ended file c d piece room p empty roomy =
-    let none : length (to-come file d) ≡ 0 = ap length (p .stops (omega arith)) in
-    let both = lengths file c d piece room p in
+ended : {to-come : Cursor → List ℕ} {w : ℕ} {c d : Cursor} {piece : List ℕ} {room : ℕ} → Piece to-come w c d piece room
+    → length piece ≡ 0 → w ≤ room → length (to-come c) ≡ 0
+ended {to-come = to-come} {d = d} p empty roomy =
+    let none : length (to-come d) ≡ 0 = ap length (p .stops (omega arith)) in
+    let both = lengths p in
     omega arith
 
 large-buffer-requires : tie.Need-large-buffer-requires Inv-loop μ-loop
@@ -53,11 +53,10 @@ piece-requires c κs = search needs
 returns : tie.Need-returns Inv-loop μ-loop
 returns c =
     let p = c .before .before .piece in
-    let file = now (c .before .before .before .before .before .before .before .before .args .file) in
     let loop = c .before .before .before .before .loop in
     let empty : length (take (p .result .len) (p .last .1 .1 .0)) ≡ 0 = omega (arith, p .ensures .0 .1, c .if1 .taken) in
     let roomy : longest-line ≤ length (p .last .1 .1 .0) = search needs in
-    let none = ended file (loop .cursor) (p .result .next) (take (p .result .len) (p .last .1 .1 .0)) (length (p .last .1 .1 .0)) (p .ensures .1 .0) empty roomy in
+    let none = ended (p .ensures .1 .0) empty roomy in
     omega (arith, none, loop .inv .1, loop .inv .2)
 
 array-share-prefix-space : tie.Need-array-share-prefix-space Inv-loop μ-loop
@@ -78,19 +77,18 @@ wrapping-add-u64-requires c κs = search needs
 loop-less : tie.Need-loop-less Inv-loop μ-loop
 loop-less c =
     let p = c .before .before .before .before .before .before .before .piece in
-    let file = now (c .before .before .before .before .before .before .before .before .before .before .before .before .before .args .file) in
-    let both = lengths file (c .before .before .before .before .before .before .before .before .before .loop .cursor) (p .result .next) (take (p .result .len) (p .last .1 .1 .0)) (length (p .last .1 .1 .0)) (p .ensures .1 .0) in
+    let both = lengths (p .ensures .1 .0) in
     omega (arith, both, p .ensures .0 .1)
 
 loop-again : tie.Need-loop-again Inv-loop μ-loop
 loop-again c =
     let p = c .before .before .before .before .before .before .before .piece in
-    let file = now (c .before .before .before .before .before .before .before .before .before .before .before .before .before .args .file) in
-    let loop = c .before .before .before .before .before .before .before .before .before .loop in
-    let both = lengths file (loop .cursor) (p .result .next) (take (p .result .len) (p .last .1 .1 .0)) (length (p .last .1 .1 .0)) (p .ensures .1 .0) in
+    let put = c .before .before .before .write-all in
+    let whole : put .result ≡ p .result .len = omega (arith, put .ensures, p .ensures .0 .1, c .before .before .if2 .left) in
+    let both = lengths (p .ensures .1 .0) in
     let sum = c .before .wrapping-add-u64 .ensures in
-    let put : c .before .before .before .write-all .result ≡ p .result .len = omega (arith, c .before .before .before .write-all .ensures, p .ensures .0 .1, c .before .before .if2 .left) in
-    (search needs, omega (arith, sum), omega (arith, sum, put, both, p .ensures .0 .1, loop .inv .2))
+    let so-far = c .before .before .before .before .before .before .before .before .before .loop .inv .2 in
+    (search needs, omega (arith, sum), omega (arith, sum, whole, both, p .ensures .0 .1, so-far))
 
 pub list-spec : {M : Type 1} → statement M
 list-spec =

@@ -17,7 +17,10 @@ above-zero (pos n) e = tt
 above-zero (negsuc n) e = subst T (sym e) tt
 
 cast-moved : tie.Need-cast-moved
-cast-moved c = (above-zero (toZ w64 (ofZ w64 (c .before .args .got))) (c .if1 .taken), fits-natAbs {w = w64} {w′ = w64} tt (sfits-toZ (fits-ofZ (c .before .fits .got))))
+cast-moved c = (
+  above-zero (toZ w64 (ofZ w64 (c .before .args .got))) (c .if1 .taken),
+  fits-natAbs {w = w64} {w′ = w64} tt (sfits-toZ (fits-ofZ (c .before .fits .got))),
+)
 
 returns : tie.Need-returns
 returns c = search needs
@@ -34,8 +37,8 @@ errno-requires c κs = search needs
 returns-4 : tie.Need-returns-4
 returns-4 c = search needs
 
-sched-yield-requires : tie.Need-sched-yield-requires
-sched-yield-requires c κs = search needs
+pause-requires : tie.Need-pause-requires
+pause-requires c κs = search needs
 
 returns-5 : tie.Need-returns-5
 returns-5 c = search needs
@@ -53,6 +56,6 @@ answered-spec =
     returns-3
     errno-requires
     returns-4
-    sched-yield-requires
+    pause-requires
     returns-5
     returns-6)
