@@ -1,6 +1,5 @@
 //! The check of a pair: every shape up to the level must have an odd
-//! determinant. Written from documents 01, 003 and 004 alone and not from the
-//! Rattle code.
+//! determinant.
 
 use crate::pair::Pair;
 use crate::refusal::Refusal;

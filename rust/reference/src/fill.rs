@@ -1,5 +1,4 @@
 //! The fill: points from a start index into two lent buffers.
-//! Written from documents 01, 003 and 004 alone and not from the Rattle code.
 
 use crate::pair::{Pair, Shift};
 use crate::refusal::Refusal;

@@ -1,7 +1,9 @@
 //! The reference visit planner: check, points, cell queries, fills, walks, unit
-//! numbers, stage positions and the region file with its listing. Written from
-//! documents 01, 003 and 004 alone and not from the Rattle code, so that an
-//! agreement of the two says something.
+//! numbers, stage positions and the region file with its listing. All of it,
+//! the programs included, is written from documents 01, 003 and 004 alone
+//! (README.md of the repository says what they are) and not from the Rattle
+//! code, so that an agreement of the two says something. Only
+//! `region_file::Stopped` is not in them: it follows docs/REFUSALS.md.
 
 #![forbid(unsafe_code)]
 

@@ -1,6 +1,5 @@
 //! The listing of a region file: a header and a line for each visit, or the
-//! refusal. Written from documents 01, 003 and 004 alone and not from the
-//! Rattle code.
+//! refusal.
 
 use std::iter;
 

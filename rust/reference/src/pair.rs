@@ -1,5 +1,4 @@
 //! A pair of generator matrices, its points, and the standard pair.
-//! Written from documents 01, 003 and 004 alone and not from the Rattle code.
 
 use crate::refusal::Refusal;
 

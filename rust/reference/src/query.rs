@@ -1,5 +1,4 @@
 //! The cell query: the one index of a block whose point lies in a cell.
-//! Written from documents 01, 003 and 004 alone and not from the Rattle code.
 
 use crate::check::{judge_level, reduce, shape_equations};
 use crate::pair::{Pair, Shift};

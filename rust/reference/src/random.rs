@@ -1,5 +1,4 @@
 //! A small xorshift generator and random pairs, for the tests only.
-//! Written from documents 01, 003 and 004 alone and not from the Rattle code.
 
 use crate::pair::{Pair, Shift};
 

@@ -1,5 +1,4 @@
 //! The refusals 1 to 15 of document 01, each with its number.
-//! Written from documents 01, 003 and 004 alone and not from the Rattle code.
 
 use std::fmt;
 

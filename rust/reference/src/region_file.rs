@@ -1,6 +1,4 @@
 //! The region file: records of 32 bytes, the chain through them, its visits.
-//! Written from documents 01, 003 and 004 alone and not from the Rattle code.
-//! Only `Stopped` is not in them: it follows the end of docs/REFUSALS.md.
 
 use crate::check::judge_level;
 use crate::pair::{Pair, Shift};

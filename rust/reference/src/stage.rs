@@ -1,5 +1,4 @@
 //! The stage: regions, their limits, and the position of a point.
-//! Written from documents 01, 003 and 004 alone and not from the Rattle code.
 
 use crate::pair::Point;
 use crate::refusal::Refusal;

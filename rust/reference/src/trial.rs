@@ -1,6 +1,5 @@
 //! Inputs on which a planner can be tried: random numbers from a seed, region
-//! files in order and damaged, and failing files made smaller. Written from
-//! documents 01, 003 and 004 alone and not from the Rattle code.
+//! files in order and damaged, and failing files made smaller.
 
 pub mod damage;
 pub mod draft;

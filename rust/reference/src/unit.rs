@@ -1,5 +1,4 @@
 //! Unit numbers: a word as a double or as a single from 0 up to 1.
-//! Written from documents 01, 003 and 004 alone and not from the Rattle code.
 
 use crate::pair::Point;
 

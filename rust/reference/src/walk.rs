@@ -1,5 +1,4 @@
 //! The walk: visits one by one, each step handing back the walk after it.
-//! Written from documents 01, 003 and 004 alone and not from the Rattle code.
 
 use crate::fill::judge_count;
 use crate::pair::{Pair, Point, Shift};

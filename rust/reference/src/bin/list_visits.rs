@@ -1,5 +1,4 @@
 //! Prints the visits of the region file on standard input, or its refusal.
-//! Written from documents 01, 003 and 004 alone and not from the Rattle code.
 
 #![forbid(unsafe_code)]
 

@@ -1,5 +1,4 @@
 //! Damage to single fields: each set at its limit and just past it.
-//! Written from documents 01, 003 and 004 alone and not from the Rattle code.
 
 use crate::trial::draft::{Draft, COUNT, HEIGHT, LEFT, LEVEL, NEXT, TOP, WIDTH};
 use crate::trial::splitmix::Splitmix;

@@ -1,5 +1,4 @@
 //! A region file in order, still as fields, so that it can be damaged.
-//! Written from documents 01, 003 and 004 alone and not from the Rattle code.
 
 use crate::region_file::{file_of, Fields};
 use crate::trial::splitmix::Splitmix;

@@ -1,5 +1,4 @@
 //! The files to try, each made from the seed and its number alone.
-//! Written from documents 01, 003 and 004 alone and not from the Rattle code.
 
 use crate::region_file::RECORD_BYTES;
 use crate::trial::damage::Damage;

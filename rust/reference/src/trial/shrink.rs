@@ -1,5 +1,4 @@
 //! Makes a failing file smaller while it still fails.
-//! Written from documents 01, 003 and 004 alone and not from the Rattle code.
 
 use std::time::{Duration, Instant};
 

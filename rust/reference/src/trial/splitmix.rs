@@ -1,5 +1,4 @@
 //! A small generator (splitmix64), so that a seed makes the same cases anywhere.
-//! Written from documents 01, 003 and 004 alone and not from the Rattle code.
 
 const STEP: u64 = 0x9E37_79B9_7F4A_7C15;
 

@@ -1,6 +1,5 @@
 //! Tries a listing program on many region files, most of them damaged, and
-//! compares what it prints, byte by byte, with the listing. Written from
-//! documents 01, 003 and 004 alone and not from the Rattle code.
+//! compares what it prints, byte by byte, with the listing.
 //!
 //!     damaged PROGRAM [SEED] [COUNT]
 

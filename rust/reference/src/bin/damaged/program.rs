@@ -1,5 +1,4 @@
 //! Runs the program under trial on one file and takes its answer.
-//! Written from documents 01, 003 and 004 alone and not from the Rattle code.
 
 use std::io::{self, Read, Write};
 use std::process::{Child, ChildStdin, ChildStdout, Command, ExitStatus, Stdio};

@@ -1,5 +1,4 @@
 //! What is said at the end: the outcomes counted, or the first difference.
-//! Written from documents 01, 003 and 004 alone and not from the Rattle code.
 
 use std::collections::BTreeMap;
 use std::fmt;

@@ -1,7 +1,6 @@
 //! Prints points, checks, queries, fills, walks, unit numbers, positions and
 //! answers to region files, to be compared byte by byte with the output of
-//! another program. Written from documents 01, 003 and 004 alone and not from
-//! the Rattle code.
+//! another program.
 
 #![forbid(unsafe_code)]
 

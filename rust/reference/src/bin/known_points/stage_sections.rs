@@ -1,5 +1,4 @@
 //! The sections on unit numbers, positions and singles along a walk.
-//! Written from documents 01, 003 and 004 alone and not from the Rattle code.
 
 use std::io::{self, Write};
 
