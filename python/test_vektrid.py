@@ -101,8 +101,10 @@ class RefusalTable(unittest.TestCase):
         refusal = caught.exception
         self.assertIs(type(refusal), kind)
         self.assertEqual(refusal.number, number)
-        for value in values:
-            self.assertRegex(str(refusal), rf'(?<!\d){re.escape(str(value))}(?!\d)')
+        opening = f'refusal {number}: {kind.words}: '
+        self.assertEqual(str(refusal)[:len(opening)], opening)
+        for value in values:  # behind the words, which have numbers of their own
+            self.assertRegex(str(refusal)[len(opening):], rf'(?<!\d){re.escape(str(value))}(?!\d)')
         self.assertEqual(str(pickle.loads(pickle.dumps(refusal))), str(refusal))
         return refusal
 
@@ -124,7 +126,7 @@ class RefusalTable(unittest.TestCase):
         self.assertEqual((refusal.m, refusal.a, refusal.j), (2, 1, 2))
 
     def test_4_size(self):
-        self.refused(vektrid.Size, 4, ['m = 3', 'level 2'], lambda: STANDARD.query(2, 3, 1, 0, 0, 0))
+        self.refused(vektrid.Size, 4, ['m = 3', 'level = 2'], lambda: STANDARD.query(2, 3, 1, 0, 0, 0))
 
     def test_5_shape(self):
         self.refused(vektrid.Shape, 5, ['m = 2', 'a = 3'], lambda: STANDARD.query(32, 2, 3, 0, 0, 0))
@@ -194,6 +196,15 @@ class RefusalTable(unittest.TestCase):
     def test_one_class_for_each_number(self):
         self.assertEqual(sorted(kind.number for kind in vektrid.Refusal.__subclasses__()), list(range(1, 16)))
         self.assertTrue(issubclass(vektrid.Refusal, ValueError))
+
+    def test_message(self):
+        for kind, given, message in [
+                (vektrid.Shape, dict(m=2, a=3), 'refusal 5: a is above m: a = 3, m = 2'),
+                (vektrid.MissingRecord, dict(holder=1, named=5, last=1),
+                 'refusal 13: the chain names a record that the file lacks: record 1 names record 5, and the last record of the file is 1')]:
+            self.assertEqual(str(kind(**given)), message)
+        with unittest.mock.patch.object(vektrid.Shape, 'details', ''):  # nothing behind the words where there are no values
+            self.assertEqual(str(vektrid.Shape()), 'refusal 5: a is above m')
 
     def test_number_unknown(self):
         with self.assertRaisesRegex(RuntimeError, '16'):

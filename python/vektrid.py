@@ -21,7 +21,7 @@ Point(x=2684354560, y=536870912)
 Position(x=-250, y=600)
 >>> pair.check(33)
 Traceback (most recent call last):
-vektrid.Level: refusal 2: level = 33 is not 1 to 32
+vektrid.Level: refusal 2: a level is not 1 to 32: level = 33
 """
 import collections
 import ctypes
@@ -44,23 +44,27 @@ LAST_INDEX = 2**32 - 1  # and the largest word
 LONGEST_LINE = 46  # bytes of the longest line of a listing: a piece must have room for it
 
 
-# ---- refusals: one class for each line of docs/REFUSALS.md, against which tools/refusals holds the number and the first line of each
+# ---- refusals: one class for each line of docs/REFUSALS.md, against which tools/refusals holds the number and the words of each
 
 
 class Refusal(ValueError):
-    """A refused call. `number` is its number in the refusal table (docs/REFUSALS.md), `given` has the values that the message names.
+    """A refused call. `number` and `words` are those of its line in the refusal table (docs/REFUSALS.md).
+
+    The message is `refusal`, the number and the words, and then `details`, which names the values that were given; `given` has them.
 
     Of a refused file, `holder` is the record that holds the link at which the judgement stopped and `named` the number that this link names; both
     are 0 where the refusal concerns no link (FileLength, Level, ReservedBytes). Of any other refused call both are None.
     """
     number = 0
     words = ''
+    details = ''  # a format string over the values of `given`
 
     holder = property(lambda self: self.given.get('holder'), doc='The record that holds the link at which the judgement of a file stopped, or None.')
     named = property(lambda self: self.given.get('named'), doc='The number that this link names, or None.')
 
     def __init__(self, **given):
-        super().__init__(f'refusal {self.number}: ' + self.words.format(**given))
+        shown = (f'refusal {self.number}', self.words, self.details.format(**given))
+        super().__init__(': '.join(part for part in shown if part))
         self.given = given
 
     def __reduce__(self):  # the message is made of the values, so they are what is pickled
@@ -70,13 +74,15 @@ class Refusal(ValueError):
 class WordCount(Refusal):
     """1: a pair is not 64 words."""
     number = 1
-    words = 'a pair has 64 words (32 columns of X, then 32 of Y), and {count} were given'
+    words = 'a pair is not 64 words'
+    details = '{count} were given; 32 columns of X and then 32 of Y are needed'
 
 
 class Level(Refusal):
     """2: a level is not 1 to 32."""
     number = 2
-    words = 'level = {level} is not 1 to 32'
+    words = 'a level is not 1 to 32'
+    details = 'level = {level}'
 
 
 class NotNet(Refusal):
@@ -85,7 +91,8 @@ class NotNet(Refusal):
     (m, a) is the shape whose determinant is even; j is the least index above 0 in the cell of index 0.
     """
     number = 3
-    words = 'not a net: in the shape (m, a) = ({m}, {a}) the point of index j = {j} shares the cell of index 0'
+    words = 'not a net'
+    details = 'in the shape (m, a) = ({m}, {a}) the point of index j = {j} shares the cell of index 0'
 
     m = property(lambda self: self.given['m'], doc='The shape has 2^m cells.')
     a = property(lambda self: self.given['a'], doc='The shape has 2^a columns.')
@@ -95,13 +102,15 @@ class NotNet(Refusal):
 class Size(Refusal):
     """4: m is above the level."""
     number = 4
-    words = 'm = {m} is above the level {level}'
+    words = 'm is above the level'
+    details = 'm = {m}, level = {level}'
 
 
 class Shape(Refusal):
     """5: a is above m."""
     number = 5
-    words = 'a = {a} is above m = {m}'
+    words = 'a is above m'
+    details = 'a = {a}, m = {m}'
 
 
 class Cell(Refusal):
@@ -110,7 +119,8 @@ class Cell(Refusal):
     The shape (m, a) has 2^a columns and 2^(m-a) rows of elementary intervals (cells), each counted from 0.
     """
     number = 6
-    words = 'column = {column}, row = {row} is no cell of the shape (m, a) = ({m}, {a}), which has 2^{a} columns and 2^{rest} rows'
+    words = 'the column or the row is outside the shape'
+    details = 'column = {column}, row = {row}, and the shape (m, a) = ({m}, {a}) has 2^{a} columns and 2^{rest} rows'
 
 
 class Block(Refusal):
@@ -119,13 +129,15 @@ class Block(Refusal):
     There are 2^(32-m) blocks of 2^m visits, counted from 0.
     """
     number = 7
-    words = 'block = {block} is past the last block of 2^{m} visits: there are 2^{rest}, from 0 on'
+    words = 'the block lies beyond the last index'
+    details = 'block = {block}, and there are 2^{rest} blocks of 2^{m} visits, from 0 on'
 
 
 class BufferLengths(Refusal):
     """8: two buffers differ in length."""
     number = 8
-    words = 'xs has {xs} words and ys has {ys}; the lengths must be equal'
+    words = 'two buffers differ in length'
+    details = 'xs has {xs} words and ys has {ys}'
 
 
 class IndexRange(Refusal):
@@ -134,44 +146,51 @@ class IndexRange(Refusal):
     The visits would go past the last index.
     """
     number = 9
-    words = 'start = {start} and count = {count} go past the last index, 4294967295'
+    words = 'start + count is above 2^32'
+    details = 'start = {start}, count = {count}, and the last index is 4294967295'
 
 
 class RegionLimits(Refusal):
     """10: an edge or an extent of a region is outside its limits."""
     number = 10
-    words = ('{where}left = {left}, top = {top}, width = {width}, height = {height} is no region: '
-             'edges are -1000000 to 1000000 micrometres, width and height 1 to 1000000')
+    words = 'an edge or an extent of a region is outside its limits'
+    details = ('{where}left = {left}, top = {top}, width = {width}, height = {height}; '
+               'edges are -1000000 to 1000000 micrometres, width and height 1 to 1000000')
 
 
 class FileLength(Refusal):
     """11: a file is empty, over 65,536 bytes, or not whole records of 32 bytes."""
     number = 11
-    words = 'a file of {size} bytes is no region file: it has whole records of 32 bytes, at least one, and at most 65536 bytes'
+    words = 'a file is empty, over 65,536 bytes, or not whole records of 32 bytes'
+    details = 'this one has {size} bytes'
 
 
 class ReservedBytes(Refusal):
     """12: bytes 8 to 31 of record 0 are not all zero."""
     number = 12
-    words = 'byte {place} of record 0 is {byte}; bytes 8 to 31 must be 0'
+    words = 'bytes 8 to 31 of record 0 are not all zero'
+    details = 'byte {place} is {byte}'
 
 
 class MissingRecord(Refusal):
     """13: the chain names a record that the file lacks."""
     number = 13
-    words = 'record {holder} names record {named} as the next of the chain, and the last record of the file is {last}'
+    words = 'the chain names a record that the file lacks'
+    details = 'record {holder} names record {named}, and the last record of the file is {last}'
 
 
 class ChainReturns(Refusal):
     """14: the chain returns to a record."""
     number = 14
-    words = 'record {holder} names record {named} as the next of the chain, which has been there already'
+    words = 'the chain returns to a record'
+    details = 'record {holder} names record {named}, which an earlier link named too'
 
 
 class VisitCount(Refusal):
     """15: a record has more than 4,096 visits."""
     number = 15
-    words = 'record {named} has {count} visits; at most 4096 are allowed'
+    words = 'a record has more than 4,096 visits'
+    details = 'record {named} has {count}'
 
 
 _REFUSALS = {kind.number: kind for kind in Refusal.__subclasses__()}
