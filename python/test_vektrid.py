@@ -872,7 +872,8 @@ class Interface(unittest.TestCase):
 
     @unittest.skipUnless(shutil.which('gcc'), 'gcc is not installed: no library of another interface can be made')
     def test_library_of_another_interface(self):
-        for code, found in (('#include <stdint.h>\nuint32_t vektrid_abi(void) { return 2; }', 'has interface 2'),
+        number = vektrid.ABI + 1
+        for code, found in ((f'#include <stdint.h>\nuint32_t vektrid_abi(void) {{ return {number}; }}', f'has interface {number},'),
                             ('int other(void) { return 1; }', 'has no interface number')):
             with tempfile.TemporaryDirectory() as folder:
                 path = os.path.join(folder, 'other.so')
