@@ -271,6 +271,31 @@ static void refused_steps(void) {
     CHECK(bits_of(singles[0]) == bits_of(7.0f) && bits_of(singles[1]) == bits_of(7.0f));
 }
 
+/* Lent NaNs keep their bits, sign and payload too, where a point is refused and where a walk has ended. Only bits are compared and copied: a
+ * NaN that is passed as a float may come out quiet, and none is equal to itself. */
+static void kept_nans(void) {
+    static const uint32_t patterns[][2] = {
+        {0x7FC00000u, 0xFFC00000u}, /* quiet, without payload, of both signs */
+        {0x7FC12345u, 0xFFEDCBA9u}, /* quiet, with payload */
+        {0x7F800001u, 0xFF800001u}, /* signalling, the least payload */
+        {0x7FA54321u, 0xFFBFFFFFu}, /* signalling, more payload */
+    };
+    for (size_t i = 0; i < sizeof patterns / sizeof patterns[0]; i++) {
+        uint32_t next = 7, given = KEPT, index = KEPT, bits[2];
+        uint64_t left = 0;
+        float singles[2];
+        memcpy(singles, patterns[i], sizeof singles);
+        REFUSES(1, vektrid_point_singles(standard, 63, 5, 9, 1, &singles[0], &singles[1]));
+        memcpy(bits, singles, sizeof bits);
+        CHECK(bits[0] == patterns[i][0] && bits[1] == patterns[i][1]);
+        memcpy(singles, patterns[i], sizeof singles);
+        CHECK(vektrid_walk_step_singles(standard, 64, 5, 9, &next, &left, &given, &index, &singles[0], &singles[1]) == 0);
+        CHECK(given == 0 && next == 7 && left == 0 && index == KEPT);
+        memcpy(bits, singles, sizeof bits);
+        CHECK(bits[0] == patterns[i][0] && bits[1] == patterns[i][1]);
+    }
+}
+
 /* ---- cells */
 
 static void known_queries(void) {
@@ -602,6 +627,7 @@ int main(void) {
     walk_of_singles();
     walk_at_the_last_index();
     refused_steps();
+    kept_nans();
     known_queries();
     refused_queries();
     all_small_cells();
