@@ -1,12 +1,12 @@
 import vektrid
 
 slide = vektrid.Region(left=-9000, top=2500, width=18001, height=12002)
-scramble = (0x9E3779B9, 0x3C6EF372)
+shift = (0x9E3779B9, 0x3C6EF372)
 pair = vektrid.Pair.standard()
 pair.check(4)
 
 print('visit     x      y')
-for index, x, y in pair.walk(0, 16, scramble):
+for index, x, y in pair.walk(0, 16, shift):
     at = slide.position(x, y)
     print(f'{index:5} {at.x:6} {at.y:6}')
 
@@ -15,8 +15,8 @@ click_x, click_y = -1234, 9876
 column = (click_x - slide.left) * 2**a // slide.width
 row = (click_y - slide.top) * 2**(m - a) // slide.height
 
-index = pair.query(32, m, a, column, row, block=0, shift=scramble)
-point = pair.point(index, scramble)
+index = pair.query(32, m, a, column, row, block=0, shift=shift)
+point = pair.point(index, shift)
 at = slide.position(point.x, point.y)
 print(f'the click {click_x}, {click_y} is in column {column}, row {row}')
 print(f'visit {index} goes there: {at.x}, {at.y}')
