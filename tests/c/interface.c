@@ -440,7 +440,6 @@ static const struct change changes[] = {
 };
 
 /* An accepted file leaves both words of the link as they were, and a refused one leaves the words of the walk so. */
-
 static void files(void) {
     for (size_t i = 0; i < sizeof changes / sizeof changes[0]; i++) {
         vektrid_file_walk walk;
