@@ -7,10 +7,11 @@ mod words;
 use libc::STDIN_FILENO;
 use libc::STDOUT_FILENO;
 use listing::Cursor;
-ghost use Rattle.list_visits.specs.Listed.{AllTaken};
+use refusal::Judgement;
+ghost use Rattle.list_visits.specs.Ending.{CountedWhole};
 
-// Whether all of a listing was written; and then the number of its bytes that the system took.
-pub enum Listed {
+// How the writing of a listing ended: with the last piece, and then the number of bytes that were written; or before.
+pub enum Ending {
     Whole(u64),
     Cut,
 }
@@ -19,17 +20,17 @@ pub enum Listed {
 fn main() {
     let mut file = [0u8; 65537];
     let n = streams::read_all(STDIN_FILENO, &mut file);
-    let listed = list(&file[..n]);
-    if let Listed::Cut = listed {
+    let ending = list(&file[..n]);
+    if let Ending::Cut = ending {
         words::cannot_write();
     }
-    say_link(&file[..n]);
+    say_refusal(&file[..n]);
 }
 
-// Writes the listing, a full buffer at a time, until nothing is to come or a write fails. It is whole only where the system took as many bytes as
-// it has; of one that is cut short `main` speaks, so that this loop has no silent end.
-fn list(file: &[u8]) -> Listed
-    ensures { λ r. ⌜ AllTaken (now (file .entry)) r ⌝ }
+// Writes the listing, a full buffer at a time, until nothing is to come or a write fails. Of one that is cut short `main` speaks, so that this
+// loop has no silent end.
+fn list(file: &[u8]) -> Ending
+    ensures { λ r. ⌜ CountedWhole (now (file .entry)) r ⌝ }
 {
     let mut space = io::large_buffer();
     let mut cursor = Cursor::open(file);
@@ -38,11 +39,11 @@ fn list(file: &[u8]) -> Listed
         let piece = cursor.piece(file, &mut space);
         let len = piece.len;
         if len == 0 {
-            return Listed::Whole(taken);
+            return Ending::Whole(taken);
         }
         let put = streams::write_all(STDOUT_FILENO, &space[..len]);
         if put < len {
-            return Listed::Cut;
+            return Ending::Cut;
         }
         taken = std::num::wrapping_add_u64(taken, put as u64);
         let next = piece.next;
@@ -50,12 +51,12 @@ fn list(file: &[u8]) -> Listed
     }
 }
 
-// Says at which link the file is refused, if it is refused at one. A link that names 0 ends the chain and is never refused; where the tests of the
-// file and its record 0 refuse it, judge_link names 0 too.
-fn say_link(file: &[u8]) {
+// Says that the file is refused, and at which link, for whoever reads standard error alone.
+fn say_refusal(file: &[u8]) {
     let judged = region_file::judge_link(file);
     let link = judged.link;
-    if link.named > 0 {
-        words::names(link);
+    let judgement = judged.judgement;
+    if let Judgement::Refused(why) = judgement {
+        words::refused(why.number(), link);
     }
 }

@@ -39,7 +39,7 @@ module _ (further : Record → List Test) (file : List ℕ) where
     pub stop : chain-stop further file links (named-before file j) (link-at file j) ≡ link-at file k
     pub decides : chain-outcome further file links (named-before file j) (named j) ≡ outcome-at further file k
     pub ends : outcome-at further file k ≡ accepted tt → named k ≡ 0
-    pub goes-on : (i : ℕ) → i < k → Passes i
+    pub earlier : (i : ℕ) → i < k → Passes i
 
   at-end : (j : ℕ) → named j ≡ 0 → outcome-at further file j ≡ accepted tt
   at-end j e = simp (eq-eqb (named j) 0 e)
@@ -84,7 +84,7 @@ module _ (further : Record → List Test) (file : List ℕ) where
                 stop = stop-next further file (named-before file j) (link-at file j) links ne e ∙ s .stop;
                 decides = chain-next further file (named-before file j) (named j) ne links e ∙ s .decides;
                 ends = s .ends;
-                goes-on = s .goes-on;
+                earlier = s .earlier;
               },
             )
 
@@ -97,7 +97,7 @@ module _ (further : Record → List Test) (file : List ℕ) where
             stop = stop-end further file (named-before file j) (link-at file j) (suc links) e;
             decides = chain-end further file (suc links) (omega arith) (named-before file j) (named j) e ∙ sym (at-end j e);
             ends = λ h. e;
-            goes-on = earlier;
+            earlier = earlier;
           },
         )
         go (inr ne) (accepted t) q more = goes-on ne q more
@@ -107,7 +107,7 @@ module _ (further : Record → List Test) (file : List ℕ) where
             stop = stop-refused further file (named-before file j) (link-at file j) (suc links) ne q;
             decides = chain-refused further file (named-before file j) (named j) ne (suc links) (omega arith) q ∙ sym (at-record j ne ∙ q);
             ends = λ h. absurd (accepted-refused (sym h ∙ at-record j ne ∙ q));
-            goes-on = earlier;
+            earlier = earlier;
           },
         )
 
@@ -122,7 +122,7 @@ stops-at further file h =
     (marked-fresh most-records) (λ i less. absurd (not-suc-le-zero less)) in
     let s = r .1 in
     let judged = head-passed further file h in
-    (r .0, record { stop = judged .1 ∙ s .stop; decides = judged .0 ∙ s .decides; ends = s .ends; goes-on = s .goes-on })
+    (r .0, record { stop = judged .1 ∙ s .stop; decides = judged .0 ∙ s .decides; ends = s .ends; earlier = s .earlier })
 
 pub stops : (further : Record → List Test) (file : List ℕ) → Stops further file
 stops further file = record { at-link = stops-at further file; at-none = λ n vs e. head-refused further file e .1 }

@@ -73,7 +73,7 @@ pub record StopsAt (further : Record → List Test) (file : List ℕ) (k : ℕ) 
   pub stop : judge-stop further file ≡ link-at file k
   pub decides : judge-outcome further file ≡ outcome-at further file k
   pub ends : outcome-at further file k ≡ accepted tt → link-at file k .named ≡ 0
-  pub goes-on : (i : ℕ) → i < k → (link-at file i .named ≡ 0 → ⊥) × (outcome-at further file i ≡ accepted tt)
+  pub earlier : (i : ℕ) → i < k → (link-at file i .named ≡ 0 → ⊥) × (outcome-at further file i ≡ accepted tt)
 
 -- the judgement of a file whose record 0 passes stops at some link; that of another stops at none
 pub record Stops (further : Record → List Test) (file : List ℕ) : Type 0 where

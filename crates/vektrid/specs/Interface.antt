@@ -1,6 +1,6 @@
--- The number of the C interface, which the header has too.
+-- The number of the C interface.
 use Prim.Native.Nat.{ℕ}
 
--- it goes up with every change of a call, of a lent struct or of an answer, and with every new call
+-- raised by hand with the header's VEKTRID_ABI, whose comment says when; tests hold the two together
 abbrev pub interface-number : ℕ
 interface-number = 1

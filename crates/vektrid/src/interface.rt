@@ -2,8 +2,7 @@
 ghost use mathlib.Core.Path.{_≡_};
 ghost use Rattle.vektrid.specs.Interface.{interface-number};
 
-// The number of this interface, by which a program tells whether it runs with the library that it was compiled for. It goes up with every
-// change of a call, of a lent struct or of an answer, and with every new call.
+// The number of this interface, by which a program tells whether it runs with the library that it was compiled for.
 const INTERFACE_NUMBER: u32 = 1;
 
 #[no_mangle]

@@ -27,8 +27,8 @@ visits-from file zero n = []
 visits-from file (suc links) n =
     cond (listable file n) (record-visits n (planned file n) 0 (planned file n .count) ++ visits-from file links (planned file n .next)) []
 
--- the number of links that count where a walk says how many may follow: no more than a file can have records, so that also a walk made by
--- hand soon comes to its end
+-- the number of links that count where a walk says how many may follow: no more than a file can have records, so that a step looks at no
+-- more records, also of a walk made by hand
 abbrev pub links-counted : ℕ → ℕ
 links-counted links = min links most-records
 

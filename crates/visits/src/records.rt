@@ -53,8 +53,8 @@ pub(crate) fn before_record(next: u32, links: u32) -> FileWalk
     }
 }
 
-// How many links count: no more than a file can have records, so that a walk made by hand, whose number of links may be anything, costs
-// no more than one that was opened.
+// How many links count: no more than a file can have records, so that a step looks at no more records, also where the walk was made by
+// hand and its number of links may be anything.
 fn links_counted(links: u32) -> u32
     ensures { λ r. ⌜ r ≡ links-counted links ⌝ }
 {
