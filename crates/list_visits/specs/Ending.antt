@@ -7,9 +7,8 @@ use Rattle.listing.specs.Listing.{listing}
 use Rattle.list_visits.specs.declared.Ending.{Ending}
 use Rattle.list_visits.specs.declared.Ending.the-variants as ending
 
--- Whole: the numbers that write_all gave back for the pieces add up to the length of the listing. They are added modulo 2^64; a file has at
--- most 2,047 times 4,096 visits, each on a line of at most 46 bytes. That write_all gives back what the system took is for its code to show:
--- no contract of the kit speaks of it. Cut: nothing is said.
+-- Whole: its number is the length of the listing, modulo 2^64; a listing is far shorter. The code adds the number up from what the system
+-- takes of each piece, which no contract of the kit can say. Cut: nothing is said.
 abbrev pub CountedWhole : List ℕ → Ending → Type 0
 CountedWhole file (ending.Whole n) = n ≡ length (listing file) % 2 ^ 64
 CountedWhole file ending.Cut = Unit

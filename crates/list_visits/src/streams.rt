@@ -1,4 +1,4 @@
-// Reading to the end and writing whole, in as many calls as the system needs. What fails is said on standard error.
+// Reading to the end and writing whole, in as many calls as the system needs.
 use crate::transfers::Transfer;
 use crate::transfers::answered;
 use crate::words;

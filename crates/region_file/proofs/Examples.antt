@@ -26,7 +26,7 @@ one next width count = next ∷ 0xFFFFFE0C ∷ 0 ∷ width ∷ 800 ∷ 0 ∷ 0 �
 abbrev judged : List ℕ → Outcome Unit
 judged file = judge-outcome no-further-tests file
 
-record Judged : Type 0 where
+record Judgements : Type 0 where
   example : judged (file-of 1 2 (one 0 1000 4)) ≡ accepted tt
   no-records : judged (file-of 0 2 []) ≡ accepted tt
   off-the-chain : judged (file-of 2 2 (one 9 0 9999 ++ one 0 1000 4096)) ≡ accepted tt
@@ -54,7 +54,7 @@ stopped : Stopped
 unfolding bytes file-of one judge-stop granted first whole zeros chain-stop record-at word-at within
 stopped = record { next-5 = refl; next-itself = refl; count-4097 = refl; level-33 = refl; end = refl }
 
-examples : Judged
+examples : Judgements
 unfolding bytes file-of one judge-outcome first whole zeros chain-outcome record-at word-at within
 examples = record {
   example = refl;

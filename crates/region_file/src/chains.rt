@@ -25,7 +25,8 @@ pub struct Link {
     pub named: u32,
 }
 
-// A judgement together with the link at which it stopped: the one that is refused, or the one that ends the chain.
+// A judgement together with the link at which it stopped: the one that is refused, or the one that ends the chain; 0 and 0 where it did
+// not come to the chain.
 pub struct Judged {
     pub judgement: Judgement,
     pub link: Link,

@@ -3,6 +3,7 @@
 use mathlib.Core.Path.{_≡_, refl, sym, ap, _∙_}
 use mathlib.Core.List.{List, _∷_}
 use Prim.Native.Nat.{ℕ, suc}
+use native.Mathlib.Omega.{arith}
 use lib.ListN.{length}
 use Rattle.refusal.proofs.First.{then-same}
 use Rattle.region_file.specs.Judge.{no-further-tests, judge-outcome}
@@ -35,4 +36,5 @@ theorems = record {
       steps file p q ss run ∙ ap (file-answers (length ss)) (then-same (judge-outcome no-further-tests file) (file-visits file) (sym e));
   visit-iff = visit-iff;
   once = once;
+  every-link-counts = λ links few. omega arith;
 }

@@ -3,11 +3,12 @@ use mathlib.Core.Path.{_≡_}
 use mathlib.Core.Bool.{true, cond, _&&_}
 use mathlib.Core.List.{List, [], _∷_}
 use mathlib.Core.Logic.{_⊎_, _↔_}
-use Prim.Native.Nat.{ℕ, zero, suc, _<_}
+use Prim.Native.Nat.{ℕ, zero, suc, _≤_, _<_}
 use lib.Dec.{eqb, ltb}
 use lib.ListN.{length}
 use Rattle.refusal.specs.Outcome.{accepted, Test}
 use Rattle.region_file.specs.declared.fields.Record.{Record}
+use Rattle.region_file.specs.Fields.{most-records}
 use Rattle.region_file.specs.Chain.{on-chain}
 use Rattle.region_file.specs.Judge.{judge-outcome}
 use Rattle.visits.specs.declared.file_walks.FileVisit.{FileVisit}
@@ -16,7 +17,7 @@ use Rattle.visits.specs.declared.file_walks.FileStep.{FileStep}
 use Rattle.visits.specs.declared.file_walks.FileStep.the-variants as step
 use Rattle.visits.specs.declared.file_walks.OpenedFile.the-variants as opened
 use Rattle.visits.specs.Visits.{planned, visit-position-outcome, file-visit, file-visits, visits-outcome}
-use Rattle.visits.specs.FileWalk.{visits-to-come, Gives, of-opened-file}
+use Rattle.visits.specs.FileWalk.{links-counted, visits-to-come, Gives, of-opened-file}
 
 -- ---- steps
 
@@ -64,3 +65,5 @@ pub record Theorems : Type 0 where
   pub once : (further : Record → List Test) (file : List ℕ) → judge-outcome further file ≡ accepted tt
       → (n i : ℕ) → visits-at n i (file-visits file)
       ≡ cond (on-chain file n && ltb i (planned file n .count)) (file-visit n (planned file n) i ∷ []) []
+  -- of a walk that may follow no more links than a file can have records every link counts
+  pub every-link-counts : (links : ℕ) → links ≤ most-records → links-counted links ≡ links

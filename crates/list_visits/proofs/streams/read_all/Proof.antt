@@ -34,22 +34,20 @@ read-on-requires c κs = search needs
 enum-known-answer : tie.Need-enum-known-answer Inv-loop μ-loop
 enum-known-answer c = search needs
 
+-- the read gave no more bytes than there was room for
+no-more : (c : tie.After-known-told Inv-loop μ-loop) → c .before .answer .given .0 .0
+    ≤ length (c .before .before .before .before .before .read-on .last .1 .0)
+    - c .before .before .before .before .before .before .before .before .before .loop .done
+no-more c = subst (MovesAtMost _) (c .before .answer .given .1) (c .before .before .before .before .before .read-on .ensures)
+
 add-done : tie.Need-add-done Inv-loop μ-loop
-add-done c =
-    let on = c .before .before .before .before .before .read-on in
-    let done = c .before .before .before .before .before .before .before .before .before .loop .done in
-    let more = subst (MovesAtMost (length (on .last .1 .0) - done)) (c .before .answer .given .1) (on .ensures) in
-    search (needs, more)
+add-done c = search (needs, no-more c)
 
 loop-less : tie.Need-loop-less Inv-loop μ-loop
 loop-less c = search needs
 
 loop-again : tie.Need-loop-again Inv-loop μ-loop
-loop-again c =
-    let on = c .before .before .before .before .before .read-on in
-    let done = c .before .before .before .before .before .before .before .before .before .loop .done in
-    let more = subst (MovesAtMost (length (on .last .1 .0) - done)) (c .before .answer .given .1) (on .ensures) in
-    search (needs, more)
+loop-again c = search (needs, no-more c)
 
 enum-told : tie.Need-enum-told Inv-loop μ-loop
 enum-told c = search needs

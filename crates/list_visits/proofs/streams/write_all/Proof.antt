@@ -30,22 +30,20 @@ write-on-requires c κs = search needs
 enum-known-answer : tie.Need-enum-known-answer Inv-loop μ-loop
 enum-known-answer c = search needs
 
+-- the write took no more bytes than were left
+no-more : (c : tie.After-known-told Inv-loop μ-loop) → c .before .answer .given .0 .0
+    ≤ length (c .before .before .before .before .before .before .before .before .args .text .now)
+    - c .before .before .before .before .before .before .loop .done
+no-more c = subst (MovesAtMost _) (c .before .answer .given .1) (c .before .before .before .write-on .ensures)
+
 add-done : tie.Need-add-done Inv-loop μ-loop
-add-done c =
-    let text = c .before .before .before .before .before .before .before .before .args .text .now in
-    let done = c .before .before .before .before .before .before .loop .done in
-    let more = subst (MovesAtMost (length text - done)) (c .before .answer .given .1) (c .before .before .before .write-on .ensures) in
-    search (needs, more)
+add-done c = search (needs, no-more c)
 
 loop-less : tie.Need-loop-less Inv-loop μ-loop
 loop-less c = search needs
 
 loop-again : tie.Need-loop-again Inv-loop μ-loop
-loop-again c =
-    let text = c .before .before .before .before .before .before .before .before .args .text .now in
-    let done = c .before .before .before .before .before .before .loop .done in
-    let more = subst (MovesAtMost (length text - done)) (c .before .answer .given .1) (c .before .before .before .write-on .ensures) in
-    search (needs, more)
+loop-again c = search (needs, no-more c)
 
 enum-told : tie.Need-enum-told Inv-loop μ-loop
 enum-told c = search needs
