@@ -20,7 +20,7 @@ REFUSED = re.compile(r'(?P<path>/\S+):(?P<line>\d+):\d+: '
 # The line of a source file at which a function begins.
 FUNCTION = re.compile(r'^[^/]*\bfn (\w+)[(<]')
 # A message that says that the proof file no longer fits the text, and not that a fact is false.
-UNFIT = re.compile(r'not in scope|was not admitted|can be named from here|no `mod` line|unexpected|expected a|reserved word')
+UNFIT = re.compile(r'not in scope|was not admitted|can be named from here|^record `|has no field|no `mod` line|unexpected|expected a|reserved word')
 
 
 class Misfit(Exception):
