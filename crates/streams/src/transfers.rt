@@ -2,7 +2,11 @@
 use libc::EAGAIN;
 use libc::EINTR;
 use libc::types::timespec;
-ghost use Rattle.list_visits.specs.Transfer.{MovesAtMost};
+ghost use Rattle.streams.specs.Transfer.{MovesAtMost};
+
+// A proved loop has to end, and nothing says that whoever is at the other end of a pipe goes on. So each loop counts its calls down, from a
+// number that no run uses up: where a call would block, it is made again for as long as the system itself would wait.
+pub(crate) const MOST_CALLS: u64 = u64::MAX;
 
 // Bytes were moved; or none, which is the end of an input; or the call is to be made again; or it failed, and errno says why.
 pub enum Transfer {

@@ -5,9 +5,9 @@ use Prim.Native.Nat.{_+_, _-_, _≤_}
 use native.Mathlib.Omega.{arith}
 use borrow.Author.Needs.{needs}
 use lib.ListN.{length}
-use Rattle.list_visits.specs.Transfer.{MovesAtMost}
-use Rattle.list_visits.proofs.streams.write_all.Statement.{statement}
-use Rattle.list_visits.proofs.streams.write_all.Tie as tie
+use Rattle.streams.specs.Transfer.{MovesAtMost}
+use Rattle.streams.proofs.writing.write_all.Statement.{statement}
+use Rattle.streams.proofs.writing.write_all.Tie as tie
 
 abbrev Inv-loop : tie.InvT-loop
 Inv-loop fd text done₀ calls₀ done calls = done ≤ length text

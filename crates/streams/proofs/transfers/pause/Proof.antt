@@ -48,10 +48,10 @@ use Rattle.libc.proofs.nanosleep.Symbol as nanosleep-def
 use Rattle.libc.proofs.nanosleep.Symbol.{name as #libc·nanosleep}
 use Rattle.libc.proofs.types.timespec as T
 use Rattle.libc.proofs.types.timespec.Laws as T′
-use Rattle.list_visits.proofs.transfers.pause as pause
-use Rattle.list_visits.proofs.transfers.pause.Code as code
-use Rattle.list_visits.proofs.transfers.pause.Key.{name as #pause}
-use Rattle.list_visits.proofs.transfers.pause.Statement as stated
+use Rattle.streams.proofs.transfers.pause as pause
+use Rattle.streams.proofs.transfers.pause.Code as code
+use Rattle.streams.proofs.transfers.pause.Key.{name as #pause}
+use Rattle.streams.proofs.transfers.pause.Statement as stated
 
 abbrev stayed : Stays (pause.ended .signature .params) (pause.ended .kept)
 stayed = tt

@@ -6,9 +6,9 @@ use native.Mathlib.Omega.{arith}
 use borrow.Author.Needs.{needs}
 use lib.ListN.{length}
 use Rattle.io.proofs.Counting.{counts}
-use Rattle.list_visits.specs.Transfer.{MovesAtMost}
-use Rattle.list_visits.proofs.streams.read_all.Statement.{statement}
-use Rattle.list_visits.proofs.streams.read_all.Tie as tie
+use Rattle.streams.specs.Transfer.{MovesAtMost}
+use Rattle.streams.proofs.reading.read_all.Statement.{statement}
+use Rattle.streams.proofs.reading.read_all.Tie as tie
 
 abbrev Inv-loop : tie.InvT-loop
 Inv-loop fd buffer₀ done₀ calls₀ buffer done calls = (done ≤ length buffer) × (length buffer ≡ length buffer₀)

@@ -1,7 +1,7 @@
 -- What a call of read or write came to.
 use Prim.Native.Nat.{ℕ, _≤_}
-use Rattle.list_visits.specs.declared.transfers.Transfer.{Transfer}
-use Rattle.list_visits.specs.declared.transfers.Transfer.the-variants as transfer
+use Rattle.streams.specs.declared.transfers.Transfer.{Transfer}
+use Rattle.streams.specs.declared.transfers.Transfer.the-variants as transfer
 
 -- no more than n bytes were moved
 abbrev pub MovesAtMost : ℕ → Transfer → Type 0

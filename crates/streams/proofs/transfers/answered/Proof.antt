@@ -9,8 +9,8 @@ use lib.Signed.{ltZ, nonNeg}
 use mir.Facts.{fits-natAbs, sfits-toZ, fits-ofZ}
 use mir.Syntax.{w64}
 use mir.Val.{toZ, ofZ}
-use Rattle.list_visits.proofs.transfers.answered.Statement.{statement}
-use Rattle.list_visits.proofs.transfers.answered.Tie as tie
+use Rattle.streams.proofs.transfers.answered.Statement.{statement}
+use Rattle.streams.proofs.transfers.answered.Tie as tie
 
 above-zero : (z : ℤ) → ltZ (pos 0) z ≡ true → T (nonNeg z)
 above-zero (pos n) e = tt
