@@ -4,6 +4,7 @@ use mathlib.Core.List.{List, [], _∷_}
 use Prim.Native.Nat.{ℕ}
 use lib.ListN.{replicate}
 use lib.Ieee.{binary32, toBits}
+use Rattle.ranges.specs.Each.{Each}
 use Rattle.net.specs.Sequence.{point}
 use Rattle.refusal.specs.Outcome.{accepted, not-net}
 use Rattle.plan.specs.declared.pair.Plan.{Plan}
@@ -32,10 +33,6 @@ Holds P (index-in s m a c r k i) = query-outcome P (shift-by s) largest-level m 
 Holds P (refused-at word level m a j) = check-outcome (replicate 64 word) level ≡ not-net m a j
 Holds P (single-of word bits) = toBits binary32 (single word) ≡ bits
 
-abbrev pub All : Plan → List Known → Type 0
-All P [] = Unit
-All P (k ∷ ks) = Holds P k × All P ks
-
 abbrev pub table : List Known
 table =
     point-at 0 0 0
@@ -53,4 +50,4 @@ table =
 
 -- every entry holds of the standard pair
 abbrev pub KnownPoints : Type 0
-KnownPoints = All standard-pair table
+KnownPoints = Each (Holds standard-pair) table

@@ -1,6 +1,7 @@
 pub mod Order
 pub mod Tests
 pub mod Below
+pub mod Each
 pub mod Search
 pub mod Range
 pub mod Count

@@ -3,6 +3,7 @@ pub mod Range
 pub mod Count
 pub mod Search
 pub mod Below
+pub mod Each
 pub mod Skip
 pub mod Walk
 pub mod Theorem
