@@ -3,5 +3,7 @@ pub mod Numbers
 pub mod Signed
 pub mod Back
 pub mod Parts
+pub mod Aligned
 pub mod Joins
+pub mod Filling
 pub mod Theorem

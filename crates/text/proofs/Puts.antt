@@ -75,3 +75,29 @@ module _ (w : ℕ) (d : List ℕ) (at : ℕ) (s : List ℕ) where
 
     pub from-if-room : at + w ≤ length d → WritesIfRoom w d at s r e → Writes d at s r e
     from-if-room h p = let q = le-leb (at + w) (length d) h in (p .0 ∙ simp q, p .1 ∙ simp q)
+
+-- four writers one after the other, where all four have room
+module _ (w₁ w₂ w₃ w₄ : ℕ) (s₁ s₂ s₃ s₄ : List ℕ) (m₁ : length s₁ ≤ w₁) (m₂ : length s₂ ≤ w₂) (m₃ : length s₃ ≤ w₃) (m₄ : length s₄ ≤ w₄) where
+  pub four-put : (d : List ℕ) (at r₁ : ℕ) (e₁ : List ℕ) (r₂ : ℕ) (e₂ : List ℕ) (r₃ : ℕ) (e₃ : List ℕ) (r₄ : ℕ) (e₄ : List ℕ)
+      → at + (w₁ + w₂ + w₃ + w₄) ≤ length d → WritesIfRoom w₁ d at s₁ r₁ e₁ → WritesIfRoom w₂ e₁ r₁ s₂ r₂ e₂ → WritesIfRoom w₃ e₂ r₂ s₃ r₃ e₃
+      → WritesIfRoom w₄ e₃ r₃ s₄ r₄ e₄ → Writes d at (s₁ ++ (s₂ ++ (s₃ ++ s₄))) r₄ e₄
+  four-put d at r₁ e₁ r₂ e₂ r₃ e₃ r₄ e₄ h q₁ q₂ q₃ q₄ =
+      let p₁ : Writes d at s₁ r₁ e₁ = from-if-room w₁ d at s₁ r₁ e₁ (omega arith) q₁ in
+      let l₁ : length e₁ ≡ length d = writes-keeps-length d at s₁ r₁ e₁ p₁ (omega arith) in
+      let b₁ : r₁ ≤ at + w₁ = omega (arith, p₁ .0) in
+      let p₂ : Writes e₁ r₁ s₂ r₂ e₂ = from-if-room w₂ e₁ r₁ s₂ r₂ e₂ (omega arith) q₂ in
+      let l₂ : length e₂ ≡ length e₁ = writes-keeps-length e₁ r₁ s₂ r₂ e₂ p₂ (omega arith) in
+      let b₂ : r₂ ≤ r₁ + w₂ = omega (arith, p₂ .0) in
+      let p₃ : Writes e₂ r₂ s₃ r₃ e₃ = from-if-room w₃ e₂ r₂ s₃ r₃ e₃ (omega arith) q₃ in
+      let l₃ : length e₃ ≡ length e₂ = writes-keeps-length e₂ r₂ s₃ r₃ e₃ p₃ (omega arith) in
+      let b₃ : r₃ ≤ r₂ + w₃ = omega (arith, p₃ .0) in
+      let p₄ : Writes e₃ r₃ s₄ r₄ e₄ = from-if-room w₄ e₃ r₃ s₄ r₄ e₄ (omega arith) q₄ in
+      let n₃ : length (s₃ ++ s₄) ≡ length s₃ + length s₄ = length-append s₃ s₄ in
+      let n₂ : length (s₂ ++ (s₃ ++ s₄)) ≡ length s₂ + length (s₃ ++ s₄) = length-append s₂ (s₃ ++ s₄) in
+      writes-then d at s₁ (s₂ ++ (s₃ ++ s₄)) r₁ e₁ r₄ e₄ p₁
+      (writes-then e₁ r₁ s₂ (s₃ ++ s₄) r₂ e₂ r₄ e₄ p₂ (writes-then e₂ r₂ s₃ s₄ r₃ e₃ r₄ e₄ p₃ p₄ (omega arith)) (omega arith))
+      (omega arith)
+
+  -- and how long their texts are together
+  pub four-longest : length (s₁ ++ (s₂ ++ (s₃ ++ s₄))) ≤ w₁ + w₂ + w₃ + w₄
+  four-longest = omega (arith, length-append s₁ (s₂ ++ (s₃ ++ s₄)), length-append s₂ (s₃ ++ s₄), length-append s₃ s₄)

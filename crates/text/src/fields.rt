@@ -1,7 +1,6 @@
 // The writers that check for room.
 use crate::numerals::put_number;
-use crate::numerals::put_sign;
-use signed::unsigned_abs;
+use crate::numerals::put_signed;
 ghost use mathlib.Core.Path.{_≡_};
 ghost use Prim.Native.Nat.{_+_, _≤_};
 ghost use lib.Dec.{leb};
@@ -16,7 +15,7 @@ pub const LONGEST_NUMBER: usize = 11;
 pub const LONGEST_SIGNED: usize = 12;
 
 // Whether n bytes are left from byte `at` on. The sum of both might not fit its type, so they are subtracted from the length.
-fn has_room(n: usize, length: usize, at: usize) -> bool
+pub fn has_room(n: usize, length: usize, at: usize) -> bool
     ensures { λ r. ⌜ r ≡ leb (at + n) length ⌝ }
 {
     if length < n {
@@ -47,9 +46,7 @@ pub fn signed_number(z: i32, last: u8, out: &mut [u8], at: usize) -> usize
     if !has_room(LONGEST_SIGNED, out.len(), at) {
         return at;
     }
-    let m = unsigned_abs(z);
-    let next = put_sign(z, out, at);
-    put_number(m, last, out, next)
+    put_signed(z, last, out, at)
 }
 
 // Writes bytes as they are.

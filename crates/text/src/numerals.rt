@@ -2,10 +2,11 @@
 use crate::groups::put_byte;
 use crate::groups::put_four_digits;
 use crate::groups::put_two_digits;
+use signed::unsigned_abs;
 ghost use mathlib.Core.Path.{_≡_};
 ghost use Prim.Native.Nat.{_+_, _≤_, _<_};
 ghost use lib.ListN.{length};
-ghost use Rattle.text.specs.Decimal.{decimal, sign, number-text};
+ghost use Rattle.text.specs.Decimal.{decimal, sign, number-text, signed-text};
 ghost use Rattle.text.specs.Put.{put};
 
 // Writes a number of at most two digits.
@@ -65,7 +66,7 @@ pub(crate) fn put_number(n: u32, last: u8, out: &mut [u8], at: usize) -> usize
 }
 
 // Writes a minus sign for a negative number, and nothing for another.
-pub(crate) fn put_sign(z: i32, out: &mut [u8], at: usize) -> usize
+fn put_sign(z: i32, out: &mut [u8], at: usize) -> usize
     requires { ⌜ at + length (sign z) ≤ length (now out) ⌝ }
     ensures end { λ r. ⌜ r ≡ at + length (sign z) ⌝ }
     ensures text { λ _. ⌜ now (out .exit) ≡ put (now (out .entry)) at (sign z) ⌝ }
@@ -74,4 +75,15 @@ pub(crate) fn put_sign(z: i32, out: &mut [u8], at: usize) -> usize
         return put_byte(b'-', out, at);
     }
     at
+}
+
+// Writes a signed number, with a minus sign before a negative one, and the byte `last` after it.
+pub(crate) fn put_signed(z: i32, last: u8, out: &mut [u8], at: usize) -> usize
+    requires { ⌜ at + length (signed-text z last) ≤ length (now out) ⌝ }
+    ensures end { λ r. ⌜ r ≡ at + length (signed-text z last) ⌝ }
+    ensures text { λ _. ⌜ now (out .exit) ≡ put (now (out .entry)) at (signed-text z last) ⌝ }
+{
+    let m = unsigned_abs(z);
+    let next = put_sign(z, out, at);
+    put_number(m, last, out, next)
 }
