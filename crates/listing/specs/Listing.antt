@@ -19,6 +19,10 @@ refused-word = 114 ∷ 101 ∷ 102 ∷ 117 ∷ 115 ∷ 101 ∷ 100 ∷ blank ∷
 unfoldable pub refused-text : ℕ → List ℕ
 refused-text n = refused-word ++ number-text n line-feed
 
+-- the length of the longest such line
+abbrev pub longest-refusal : ℕ
+longest-refusal = 8 + longest-number
+
 -- the number of the record, the index and the position, a space between and a line feed behind
 unfoldable pub line : FileVisit → List ℕ
 line v = number-text (v .number) blank ++ (number-text (v .index) blank ++ (signed-text (v .x) blank ++ signed-text (v .y) line-feed))
@@ -37,6 +41,6 @@ abbrev pub report : Outcome (List FileVisit) → List ℕ
 report (accepted vs) = header ++ lines vs
 report (refused n values) = refused-text n
 
--- the text that the program prints
+-- the text that list_visits prints
 unfoldable pub listing : List ℕ → List ℕ
 listing file = report (visits-outcome file)

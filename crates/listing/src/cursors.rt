@@ -1,6 +1,7 @@
 // A cursor in a listing: what is still to come, and the next piece of it.
 use crate::lines::LONGEST_LINE;
 use crate::lines::put_lines;
+use crate::refusals::refusal_line;
 use visits::FileWalk;
 use visits::OpenedFile;
 ghost use mathlib.Core.Path.{_≡_};
@@ -39,10 +40,7 @@ fn put_lead(lead: Lead, out: &mut [u8]) -> usize
     match lead {
         Lead::Nothing => 0,
         Lead::Header => text::bytes(b"record visit x y\n", out, 0),
-        Lead::Refused(number) => {
-            let at = text::bytes(b"refused ", out, 0);
-            text::number(number, b'\n', out, at)
-        }
+        Lead::Refused(number) => refusal_line(number, out, 0),
     }
 }
 

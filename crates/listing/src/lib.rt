@@ -2,7 +2,10 @@
 // any cursor.
 mod cursors;
 mod lines;
+mod refusals;
 
 pub use cursors::Cursor;
 pub use cursors::Lead;
 pub use cursors::Piece;
+pub use lines::LONGEST_LINE;
+pub use refusals::refusal_line;

@@ -10,7 +10,7 @@ ghost use Rattle.listing.specs.Listing.{line, longest-line};
 ghost use Rattle.listing.specs.Lines.{LinesPut};
 
 // The length of the longest line: two numbers and two signed numbers, each with the byte after it.
-pub(crate) const LONGEST_LINE: usize = 2 * text::LONGEST_NUMBER + 2 * text::LONGEST_SIGNED;
+pub const LONGEST_LINE: usize = 2 * text::LONGEST_NUMBER + 2 * text::LONGEST_SIGNED;
 
 // How far the lines reach in the buffer, and the walk after them.
 pub(crate) struct Reached {

@@ -7,13 +7,10 @@ use native.Mathlib.Omega.{arith}
 use borrow.Author.Needs.{needs}
 use denote.Ref.{now}
 use lib.ListN.{length}
-use Rattle.text.specs.Ascii.{line-feed}
-use Rattle.text.specs.Decimal.{number-text, longest-number}
 use Rattle.text.specs.Put.{put}
-use Rattle.text.proofs.Puts.{Writes, put-nothing, writes-keeps-length, writes-then, from-if-room}
-use Rattle.text.proofs.Numbers.{number-longest}
+use Rattle.text.proofs.Puts.{Writes, put-nothing, from-if-room}
 use Rattle.listing.specs.declared.cursors.Lead.{Lead}
-use Rattle.listing.specs.Listing.{header, refused-word, refused-text}
+use Rattle.listing.specs.Listing.{header, refused-text, longest-refusal}
 use Rattle.listing.specs.Cursor.{lead-text}
 use Rattle.listing.proofs.cursors.put_lead.Statement.{statement}
 use Rattle.listing.proofs.cursors.put_lead.Tie as tie
@@ -33,14 +30,8 @@ bytes-requires c κs = search needs
 enum-known-lead : tie.Need-enum-known-lead
 enum-known-lead c = search needs
 
-slice-aggregate-bytes-2 : tie.Need-slice-aggregate-bytes-2
-slice-aggregate-bytes-2 c = search needs
-
-bytes-requires-2 : tie.Need-bytes-requires-2
-bytes-requires-2 c κs = search needs
-
-number-requires : tie.Need-number-requires
-number-requires c κs = search needs
+refusal-line-requires : tie.Need-refusal-line-requires
+refusal-line-requires c κs = search needs
 
 -- a text put at the start
 abbrev Led : List ℕ → List ℕ → ℕ → List ℕ → Type 0
@@ -70,30 +61,15 @@ same-length-2 : tie.Need-same-length-2
 same-length-2 c = search needs
 
 returns-3 : tie.Need-returns-3
-unfolding refused-text
 returns-3 c =
-    let a = c .before .before .before .before .before .before .before .before .before .before .before .before .before .args in
-    let d = now (a .out) in
-    let u = c .before .before .before .before .before .before .bytes2 in
-    let v = c .before .before .number in
-    let n = c .before .before .before .before .before .before .before .before .before .before .lead .given .0 .0 in
-    let p : Writes d 0 refused-word (u .result) (u .last .1 .0) = from-if-room 8 d 0 refused-word (u .result) (u .last .1 .0)
-    (omega (arith, c .before .before .before .before .before .before .before .before .before .before .before .before .before .pre)) (u .ensures) in
-    let l : length (u .last .1 .0) ≡ length d = writes-keeps-length d 0 refused-word (u .result) (u .last .1 .0) p
-    (omega (arith, c .before .before .before .before .before .before .before .before .before .before .before .before .before .pre)) in
-    let q : Writes (u .last .1 .0) (u .result) (number-text n line-feed) (v .result) (v .last .1 .1 .0) =
-    from-if-room longest-number (u .last .1 .0) (u .result) (number-text n line-feed) (v .result) (v .last .1 .1 .0)
-    (omega (arith, c .before .before .before .before .before .before .before .before .before .before .before .before .before .pre, p .0, l))
-    (v .ensures) in
-    subst (λ (k : Lead). Led d (lead-text k) (v .result) (v .last .1 .1 .0))
-    (sym (c .before .before .before .before .before .before .before .before .before .before .lead .given .1))
-    (led d (refused-text n) (v .result) (v .last .1 .1 .0)
-    (writes-then d 0 refused-word (number-text n line-feed) (u .result) (u .last .1 .0) (v .result) (v .last .1 .1 .0) p q
-    (omega (
-      arith,
-      c .before .before .before .before .before .before .before .before .before .before .before .before .before .pre,
-      number-longest n line-feed,
-    ))))
+    let start = c .before .before .before .before .before .before .before .before in
+    let d = now (start .args .out) in
+    let u = c .before .before .refusal-line in
+    let known = c .before .before .before .before .before .lead .given in
+    let n = known .0 .0 in
+    subst (λ (k : Lead). Led d (lead-text k) (u .result) (u .last .1 .0)) (sym (known .1))
+    (led d (refused-text n) (u .result) (u .last .1 .0)
+    (from-if-room longest-refusal d 0 (refused-text n) (u .result) (u .last .1 .0) (omega (arith, start .pre)) (u .ensures)))
 
 pub put-lead-spec : {M : Type 1} → statement M
 put-lead-spec =
@@ -104,9 +80,7 @@ put-lead-spec =
     slice-aggregate-bytes
     bytes-requires
     enum-known-lead
-    slice-aggregate-bytes-2
-    bytes-requires-2
-    number-requires
+    refusal-line-requires
     returns
     same-length
     returns-2

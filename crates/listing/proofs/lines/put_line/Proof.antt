@@ -7,9 +7,10 @@ use mir.Syntax.{w32}
 use mir.Val.{SFits}
 use mir.ValLaws.{toZ-ofZ}
 use Rattle.text.specs.Ascii.{line-feed, blank}
-use Rattle.text.specs.Decimal.{signed-text, longest-signed}
-use Rattle.text.proofs.Puts.{WritesIfRoom}
-use Rattle.listing.proofs.Putting.{line-put}
+use Rattle.text.specs.Decimal.{number-text, signed-text, longest-number, longest-signed}
+use Rattle.text.proofs.Puts.{WritesIfRoom, four-put}
+use Rattle.text.proofs.Numbers.{number-longest, signed-longest}
+use Rattle.listing.specs.Listing.{line}
 use Rattle.listing.proofs.lines.put_line.Statement.{statement}
 use Rattle.listing.proofs.lines.put_line.Tie as tie
 
@@ -29,6 +30,7 @@ same-length : tie.Need-same-length
 same-length c = search needs
 
 returns : tie.Need-returns
+unfolding line
 returns c =
     let a = c .before .before .before .before .before
     .before .before .before .before .before .before .before .before .before .before .before .before .before .before .args in
@@ -41,7 +43,10 @@ returns c =
     let y = c .before .before .signed-number2 in
     let fx : SFits w32 (v .x) = search needs in
     let fy : SFits w32 (v .y) = search needs in
-    line-put v (now (a .out)) (a .at) (n .result) (n .last .1 .1 .0) (i .result) (i .last .1 .1 .0) (x .result) (x .last .1 .1 .0)
+    four-put longest-number longest-number longest-signed longest-signed (number-text (v .number) blank) (number-text (v .index) blank)
+    (signed-text (v .x) blank) (signed-text (v .y) line-feed) (number-longest (v .number) blank) (number-longest (v .index) blank)
+    (signed-longest (v .x) blank) (signed-longest (v .y) line-feed) (now (a .out)) (a .at) (n .result) (n .last .1 .1 .0) (i .result) (i .last .1
+    .1 .0) (x .result) (x .last .1 .1 .0)
     (y .result) (y .last .1 .1 .0)
     (c .before .before .before .before .before .before .before .before .before .before .before .before .before .before .before .before .before
     .before .before .pre)

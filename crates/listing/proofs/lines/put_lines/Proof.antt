@@ -11,8 +11,9 @@ use lib.ListN.{length, take, drop}
 use Rattle.visits.specs.declared.file_walks.FileVisit.{FileVisit}
 use Rattle.visits.specs.declared.file_walks.FileStep.{FileStep}
 use Rattle.visits.specs.FileWalk.{visits-to-come, Gives}
+use Rattle.text.proofs.Filling.{joined, beyond}
 use Rattle.listing.specs.Listing.{line, lines}
-use Rattle.listing.proofs.Putting.{line-longest, line-some, lines-more, joined, beyond}
+use Rattle.listing.proofs.Putting.{line-longest, line-some, lines-more}
 use Rattle.listing.proofs.lines.put_lines.Statement.{statement}
 use Rattle.listing.proofs.lines.put_lines.Tie as tie
 

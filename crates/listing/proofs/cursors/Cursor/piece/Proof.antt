@@ -1,26 +1,21 @@
 -- `Cursor::piece`: the lead's text and the lines put behind it are what was to come, up to what is to come from the next cursor.
 use mathlib.Core.Path.{_≡_, refl, sym, ap, _∙_}
-use mathlib.Core.List.{List, [], _++_}
-use Prim.Native.Nat.{ℕ, _+_, _-_, _≤_, zero-le}
+use mathlib.Core.List.{[], _++_}
+use Prim.Native.Nat.{_+_, zero-le}
 use native.Mathlib.Nat.{zero-add}
 use native.Mathlib.Omega.{arith}
 use borrow.Author.Needs.{needs}
 use denote.Ref.{now}
-use lib.ListN.{length, take, drop}
-use lib.Seq.{length-take-le, drop-drop}
+use lib.ListN.{length, take}
+use lib.Seq.{length-take-le}
 use Rattle.visits.specs.FileWalk.{visits-to-come}
 use Rattle.text.proofs.Puts.{Writes}
+use Rattle.text.proofs.Filling.{joined, beyond, behind}
 use Rattle.listing.specs.Listing.{lines}
 use Rattle.listing.specs.Cursor.{lead-text, to-come, ListingPiece}
-use Rattle.listing.proofs.Putting.{lead-longest, lines-none, joined, beyond}
+use Rattle.listing.proofs.Putting.{lead-longest, lines-none}
 use Rattle.listing.proofs.cursors.Cursor.piece.Statement.{statement}
 use Rattle.listing.proofs.cursors.Cursor.piece.Tie as tie
-
--- buffers that agree from a byte on agree from a later one on
-behind : (n at : ℕ) (d e : List ℕ) → at ≤ n → drop at d ≡ drop at e → drop n d ≡ drop n e
-behind n at d e h q =
-    let k : n ≡ at + (n - at) = omega arith in
-    ap (λ (m : ℕ). drop m d) k ∙ sym (drop-drop (n - at) at d) ∙ ap (drop (n - at)) q ∙ drop-drop (n - at) at e ∙ ap (λ (m : ℕ). drop m e) (sym k)
 
 returns : tie.Need-returns
 returns c =
