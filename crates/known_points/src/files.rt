@@ -3,7 +3,7 @@ use crate::print;
 use listing::Cursor;
 
 // A word from a byte on, little-endian.
-fn put_word(file: &mut [u8], at: usize, word: u32) {
+pub fn put_word(file: &mut [u8], at: usize, word: u32) {
     let bytes = [
         (word % 256) as u8,
         (word / 256 % 256) as u8,
@@ -22,7 +22,7 @@ fn put_record(file: &mut [u8], n: u32, fields: [u32; 8]) {
 }
 
 // Two records, both in order.
-fn put_base(file: &mut [u8]) {
+pub fn put_base(file: &mut [u8]) {
     put_record(file, 0, [1, 2, 0, 0, 0, 0, 0, 0]);
     put_record(file, 1, [2, 4294966796, 0, 1000, 800, 0, 0, 4]);
     put_record(
@@ -155,19 +155,19 @@ pub fn files() {
     two_faults();
 }
 
-// Records 1 to 2,048, each of which names the one before it.
-fn put_chain(file: &mut [u8]) {
+// Records 1 to 2,048, each of which names the one before it, and which are else alike.
+fn put_chain(file: &mut [u8], left: u32, top: u32, height: u32, y: u32, count: u32) {
     let mut n = 0u32;
     while n < 2048 {
-        put_record(file, n + 1, [n, 0, 0, 1, 1, 0, 0, 1]);
+        put_record(file, n + 1, [n, left, top, 1, height, 0, y, count]);
         n += 1;
     }
 }
 
-// A chain from record 2,047 down through all the others; record 2,048 is one more than a file may have.
-fn put_long(file: &mut [u8]) {
+// A chain from record 2,047 down through all the others. Record 2,048 is one more than a file may have, and is put where it has room.
+pub fn put_long(file: &mut [u8], left: u32, top: u32, height: u32, y: u32, count: u32) {
     put_record(file, 0, [2047, 32, 0, 0, 0, 0, 0, 0]);
-    put_chain(file);
+    put_chain(file, left, top, height, y, count);
 }
 
 fn long_line(file: &[u8], length: u32) {
@@ -186,7 +186,7 @@ fn long_lines(file: &[u8]) {
 pub fn long() {
     print::text(b"long\n");
     let mut file = [0u8; 65568];
-    put_long(&mut file);
+    put_long(&mut file, 0, 0, 1, 0, 1);
     long_lines(&file);
 }
 

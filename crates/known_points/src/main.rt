@@ -1,11 +1,12 @@
 // Prints what is also computed by rust/reference, and is compared with it byte by byte: the first 1,024 points of the standard pair,
 // plain and shifted, points of a pair that is not standard, and the answers of check, query, fill and walk at their limits. Then unit
-// numbers by their bits, positions in regions, answers to region files, and listings.
+// numbers by their bits, positions in regions, answers to region files, listings, and sheets.
 mod files;
 mod lines;
 mod pairs;
 mod positions;
 mod print;
+mod sheets;
 mod single;
 mod units;
 
@@ -25,6 +26,7 @@ fn main() {
     files::files();
     files::long();
     files::listings();
+    sheets::sheets();
 }
 
 fn points() {

@@ -8,10 +8,10 @@ use Rattle.known_points.proofs.files.put_chain.Statement.{statement}
 use Rattle.known_points.proofs.files.put_chain.Tie as tie
 
 abbrev Inv-loop : tie.InvT-loop
-Inv-loop file₀ n₀ file n = (n ≤ 2048) × (length file ≡ length file₀)
+Inv-loop file₀ left top height y count n₀ file n = (n ≤ 2048) × (length file ≡ length file₀)
 
 abbrev μ-loop : tie.MeasureT-loop
-μ-loop file₀ n₀ file n = 2048 - n
+μ-loop file₀ left top height y count n₀ file n = 2048 - n
 
 loop-holds : tie.Need-loop-holds Inv-loop μ-loop
 loop-holds c = omega arith

@@ -1,0 +1,10 @@
+pub mod Columns
+pub mod Numbers
+pub mod Lines
+pub mod Pages
+pub mod Count
+pub mod Bounds
+pub mod Lengths
+pub mod Coming
+pub mod Theorem
+pub mod Examples

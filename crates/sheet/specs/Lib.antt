@@ -1,0 +1,5 @@
+pub mod Sheet
+pub mod ReadBack
+pub mod Cursor
+pub mod Lines
+pub mod Theorem
