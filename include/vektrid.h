@@ -23,7 +23,7 @@ extern "C" {
 
 /* The number of this interface. It goes up with every change of a call, a lent struct or an answer, and with every new call, so that a program
  * compiled with this header can tell whether it runs with the library that belongs to it: vektrid_abi() == VEKTRID_ABI. */
-#define VEKTRID_ABI 1
+#define VEKTRID_ABI 2
 uint32_t vektrid_abi(void);
 
 enum vektrid_refusal { /* docs/REFUSALS.md says exactly when each is given */
@@ -110,8 +110,9 @@ uint32_t vektrid_position(int32_t left, int32_t top, uint32_t width, uint32_t he
 
 /* ---- region files */
 
-/* A walk among the visits of a file, and a cursor in its listing: words that a caller may copy and keep. Every content is answered. Go on
- * with the bytes that were opened; with other bytes the answers are some visits or some text, and still nothing else is written. */
+/* A walk among the visits of a file, and cursors in its listing and in its sheet: words that a caller may copy and keep. Every content is
+ * answered. Go on with the bytes that were opened; with other bytes the answers are some visits or some text, and still nothing else is
+ * written. */
 typedef struct vektrid_file_walk {
     uint32_t words[11];
 } vektrid_file_walk;
@@ -119,6 +120,10 @@ typedef struct vektrid_file_walk {
 typedef struct vektrid_cursor {
     uint32_t words[13];
 } vektrid_cursor;
+
+typedef struct vektrid_sheet_cursor {
+    uint32_t words[14];
+} vektrid_sheet_cursor;
 
 /* Judges a whole file: 0, or the first refusal that applies, in the order 11, 2, 12, and then at each link of the chain 13, 14, 10, 15. */
 uint32_t vektrid_judge(const uint8_t *file, size_t size);
@@ -141,6 +146,16 @@ void vektrid_listing_open(const uint8_t *file, size_t size, vektrid_cursor *curs
 /* The next piece of a listing: writes whole lines while the longest line, 46 bytes, has room, returns how many bytes it wrote, and moves
  * *cursor past them. 0 bytes into a buffer of 46 bytes or more: the listing has ended. Bytes of the buffer past the piece keep their content. */
 size_t vektrid_listing_piece(const uint8_t *file, size_t size, vektrid_cursor *cursor, uint8_t *out, size_t room);
+
+/* The start of a file's sheet: its listing set in pages for a reader to tick off. A page is 50 lines of 27 columns, each with a line feed behind,
+ * which is 1,400 bytes: a heading, 48 lines for visits, blank where there are fewer, and the number of the page. A file without visits has one
+ * page. The sheet of a refused file is its listing, one line. */
+void vektrid_sheet_open(const uint8_t *file, size_t size, vektrid_sheet_cursor *cursor);
+
+/* The next piece of a sheet, as vektrid_listing_piece gives those of a listing: whole lines are written while 46 bytes, the listing's longest
+ * line, have room, and *cursor moves past them. 0 bytes into a buffer of 46 bytes or more: the sheet has ended. Bytes of the buffer past the
+ * piece keep their content. A piece may end within a page. */
+size_t vektrid_sheet_piece(const uint8_t *file, size_t size, vektrid_sheet_cursor *cursor, uint8_t *out, size_t room);
 
 #ifdef __cplusplus
 }

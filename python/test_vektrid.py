@@ -73,6 +73,25 @@ def first_bad(words, level):
     return None
 
 
+def page_of(visits, number):
+    """A page of a sheet: a heading, 48 lines for visits, blank where there are fewer, and its number, in 27 columns."""
+    lines = [' rec  vis        x        y'] + ['%4d %4d %8d %8d' % visit for visit in visits]
+    return '\n'.join(lines + (49 - len(lines)) * [27 * ' '] + [f'{number:27}', ''])
+
+
+def pages_of(visits):
+    """The pages of a sheet: 48 visits on each, and one page where there are none."""
+    return [page_of(visits[start:start + 48], 1 + start // 48) for start in range(0, max(len(visits), 1), 48)]
+
+
+def read_back(text):
+    """The listing that a sheet gives by its columns alone: pages of 50 lines of 28 bytes, without the first and the last line and blank ones."""
+    lines = [text[start:start + 28] for start in range(0, len(text), 28)]
+    kept = [line for place, line in enumerate(lines) if place % 50 not in (0, 49) and line[:27].strip(' ')]
+    fields = [[line[start:end].lstrip(' ') for start, end in ((0, 4), (5, 9), (10, 18), (19, 27))] for line in kept]
+    return 'record visit x y\n' + ''.join(' '.join(each) + '\n' for each in fields)
+
+
 def head(first, level, reserved=bytes(24)):
     return struct.pack('<II', first, level) + reserved
 
@@ -83,6 +102,7 @@ def record(following, left=-500, top=0, width=1000, height=800, x_shift=0, y_shi
 
 EXAMPLE = head(1, 2) + record(0)
 EXAMPLE_LISTING = 'record visit x y\n1 0 -500 0\n1 1 0 400\n1 2 -250 600\n1 3 250 200\n'
+EXAMPLE_SHEET = page_of([(1, 0, -500, 0), (1, 1, 0, 400), (1, 2, -250, 600), (1, 3, 250, 200)], 1)
 
 STANDARD = vektrid.Pair.standard()
 SWAPPED = vektrid.Pair(STANDARD.words[32:] + STANDARD.words[:32])  # a net of every level too: only the axes change places
@@ -181,12 +201,13 @@ class RefusalTable(unittest.TestCase):
                 (vektrid.VisitCount, 15, (0, 1), ['record 1', 4097], head(1, 2) + record(0, count=4097)),
                 (vektrid.VisitCount, 15, (2, 1), ['record 1', LAST], head(2, 2) + record(9, count=LAST) + record(1))]:
             with self.subTest(number=number, file=file[:96]):
-                for call in (vektrid.judge, vektrid.visits):  # at the call, not at the first visit
+                for call in (vektrid.judge, vektrid.visits, vektrid.sheet_pages):  # at the call, not at the first visit or page
                     refusal = self.refused(kind, number, values, lambda: call(file))
                     self.assertEqual((refusal.holder, refusal.named), link)
                     copied = pickle.loads(pickle.dumps(refusal))
                     self.assertEqual((copied.holder, copied.named), link)
-                self.assertEqual(vektrid.listing(file), f'refused {number}\n')
+                for text in (vektrid.listing, vektrid.sheet):
+                    self.assertEqual(text(file), f'refused {number}\n')
 
     def test_no_link_without_a_file(self):
         for kind, number, call in ((vektrid.Level, 2, lambda: STANDARD.check(33)), (vektrid.RegionLimits, 10, lambda: vektrid.Region(0, 0, 0, 1))):
@@ -613,6 +634,8 @@ class Positions(unittest.TestCase):
 
 class RegionFiles(unittest.TestCase):
 
+    TEXTS = [(vektrid.listing, vektrid.listing_pieces), (vektrid.sheet, vektrid.sheet_pieces)]
+
     def test_example(self):
         self.assertIsNone(vektrid.judge(EXAMPLE))
         self.assertEqual(vektrid.listing(EXAMPLE), EXAMPLE_LISTING)
@@ -648,18 +671,21 @@ class RegionFiles(unittest.TestCase):
 
     def test_pieces(self):
         for file in (EXAMPLE, head(0, 1), EXAMPLE[:40], self.longest()):
-            for room in (46, 47, 64, 100, 1000, 65536):
-                pieces = list(vektrid.listing_pieces(file, room))
-                self.assertEqual(b''.join(pieces).decode(), vektrid.listing(file))
-                self.assertTrue(all(0 < len(piece) <= room and piece.endswith(b'\n') for piece in pieces))
-        with self.assertRaisesRegex(ValueError, 'room = 45'):
-            vektrid.listing_pieces(EXAMPLE, 45)
+            for text, in_pieces in self.TEXTS:
+                for room in (46, 47, 64, 100, 1000, 65536):
+                    pieces = list(in_pieces(file, room))
+                    self.assertEqual(b''.join(pieces).decode(), text(file))
+                    self.assertTrue(all(0 < len(piece) <= room and piece.endswith(b'\n') for piece in pieces))
+        for _, in_pieces in self.TEXTS:
+            self.assertRaisesRegex(ValueError, 'room = 45', in_pieces, EXAMPLE, 45)
 
     def test_any_buffer_of_bytes(self):
         for file in (bytearray(EXAMPLE), memoryview(EXAMPLE), array.array('B', EXAMPLE), memoryview(bytes(2) + EXAMPLE)[2:]):
             self.assertEqual(vektrid.listing(file), EXAMPLE_LISTING)
+            self.assertEqual(vektrid.sheet(file), EXAMPLE_SHEET)
         for wrong in ('text', 64, None, [0] * 32, array.array('I', 16 * [0])):
-            for call in (vektrid.judge, vektrid.visits, vektrid.listing, vektrid.listing_pieces):
+            for call in (vektrid.judge, vektrid.visits, vektrid.listing, vektrid.listing_pieces, vektrid.sheet, vektrid.sheet_pieces,
+                         vektrid.sheet_pages):
                 self.assertRaisesRegex(TypeError, 'bytes', call, wrong)
 
     def test_len_of_a_subclass_is_not_believed(self):
@@ -667,13 +693,41 @@ class RegionFiles(unittest.TestCase):
             def __len__(self):
                 return 40
         self.assertEqual(vektrid.listing(Otherwise(EXAMPLE)), EXAMPLE_LISTING)
+        self.assertEqual(list(vektrid.sheet_pages(Otherwise(EXAMPLE))), [EXAMPLE_SHEET])
 
     def test_changed_while_listed(self):
         file = bytearray(EXAMPLE)
-        visits, pieces = vektrid.visits(file), vektrid.listing_pieces(file, 46)
+        visits, pieces, pages = vektrid.visits(file), vektrid.listing_pieces(file, 46), vektrid.sheet_pages(file)
         file[:] = bytes(64)
         self.assertEqual(len(list(visits)), 4)
         self.assertEqual(b''.join(pieces).decode(), EXAMPLE_LISTING)
+        self.assertEqual(list(pages), [EXAMPLE_SHEET])
+
+    def test_sheet_of_the_example(self):
+        self.assertEqual(EXAMPLE_SHEET.splitlines()[:5], [' rec  vis        x        y', '   1    0     -500        0', '   1    1        0      400',
+                                                          '   1    2     -250      600', '   1    3      250      200'])
+        self.assertEqual(vektrid.sheet(EXAMPLE), EXAMPLE_SHEET)
+        self.assertEqual(list(vektrid.sheet_pages(EXAMPLE)), [EXAMPLE_SHEET])
+
+    def many_visits(self):
+        """Files with so many visits that pages are empty, short of one, full, or one too many; the last two have visits of several records."""
+        yield from ((count, head(1, 2) + record(0, count=count)) for count in (0, 1, 47, 48, 49, 95, 96, 97, 4096))
+        yield 0, head(0, 2)
+        yield 49, head(1, 2) + record(2, count=40) + record(3, count=0) + record(0, count=9)
+        yield 1400, self.longest()
+
+    def test_sheet_pages(self):
+        for count, file in self.many_visits():
+            visits, pages = list(vektrid.visits(file)), list(vektrid.sheet_pages(file))
+            self.assertEqual(len(visits), count)
+            self.assertEqual(pages, pages_of(visits))
+            self.assertEqual(''.join(pages), vektrid.sheet(file))
+            self.assertEqual(len(pages), max(1, math.ceil(count / 48)))
+            self.assertTrue(all([len(line) for line in page.split('\n')] == 50 * [27] + [0] for page in pages))
+
+    def test_sheet_reads_back(self):
+        for _, file in self.many_visits():
+            self.assertEqual(read_back(vektrid.sheet(file)), vektrid.listing(file))
 
 
 # ---- numbers that do not fit
@@ -692,7 +746,7 @@ class Arguments(unittest.TestCase):
              ('words[3]', lambda value: vektrid.Pair(3 * [0] + [value] + 60 * [0])),
              ('x', lambda value: Arguments.REGION.position(value, 0)), ('y', lambda value: Arguments.REGION.position(0, value)),
              ('width', lambda value: vektrid.Region(0, 0, value, 1)), ('height', lambda value: vektrid.Region(0, 0, 1, value)),
-             ('room', lambda value: vektrid.listing_pieces(EXAMPLE, value))]
+             ('room', lambda value: vektrid.listing_pieces(EXAMPLE, value)), ('room', lambda value: vektrid.sheet_pieces(EXAMPLE, value))]
     WORDS += [(name, lambda value, name=name: STANDARD.query(**{**Arguments.QUERY, name: value})) for name in QUERY]
     EDGES = [('left', lambda value: vektrid.Region(value, 0, 1, 1)), ('top', lambda value: vektrid.Region(0, value, 1, 1))]
     COUNTS = [('count', lambda value: STANDARD.fill(0, value)), ('count', lambda value: STANDARD.walk(0, value)),
@@ -796,7 +850,9 @@ def header():
 class Interface(unittest.TestCase):
 
     KINDS = {'uint32_t': ctypes.c_uint32, 'uint64_t': ctypes.c_uint64, 'int32_t': ctypes.c_int32, 'size_t': ctypes.c_size_t, 'float': ctypes.c_float,
-             'double': ctypes.c_double, 'void': None, 'uint8_t': ctypes.c_uint8, 'vektrid_file_walk': vektrid._FileWalk, 'vektrid_cursor': vektrid._Cursor}
+             'double': ctypes.c_double, 'void': None, 'uint8_t': ctypes.c_uint8}
+    STRUCTURES = {'vektrid_file_walk': vektrid._FileWalk, 'vektrid_cursor': vektrid._Cursor, 'vektrid_sheet_cursor': vektrid._SheetCursor}
+    KINDS.update(STRUCTURES)
 
     def kind(self, declared):
         """The ctypes type of a parameter of the header."""
@@ -816,7 +872,7 @@ class Interface(unittest.TestCase):
 
     def test_structures(self):
         sizes = dict((name, int(size)) for size, name in re.findall(r'uint32_t words\[(\d+)\];\s*\} (\w+);', header()))
-        self.assertEqual(sizes, {'vektrid_file_walk': ctypes.sizeof(vektrid._FileWalk) // 4, 'vektrid_cursor': ctypes.sizeof(vektrid._Cursor) // 4})
+        self.assertEqual(sizes, {name: ctypes.sizeof(kind) // 4 for name, kind in self.STRUCTURES.items()})
 
     def test_refusals_of_the_header(self):
         named = {name.replace('_', ''): int(number) for name, number in re.findall(r'VEKTRID_(\w+) = (\d+)', header())}

@@ -34,14 +34,15 @@ from typing import NamedTuple
 __all__ = ['ABI', 'Refusal', 'WordCount', 'Level', 'NotNet', 'Size', 'Shape', 'Cell', 'Block', 'BufferLengths', 'IndexRange', 'RegionLimits',
            'FileLength', 'ReservedBytes', 'MissingRecord', 'ChainReturns', 'VisitCount', 'Point', 'Singles', 'Visit', 'SinglesVisit', 'Position',
            'FileVisit', 'Pair', 'Walk', 'SinglesWalk', 'Region', 'standard_point', 'double', 'single', 'judge', 'visits', 'listing',
-           'listing_pieces', 'LARGEST_LEVEL', 'LAST_INDEX', 'LONGEST_LINE']
+           'listing_pieces', 'sheet', 'sheet_pieces', 'sheet_pages', 'LARGEST_LEVEL', 'LAST_INDEX', 'LONGEST_LINE']
 
-__version__ = '1.0.0'  # of the bindings; rust/vektrid has the same
-ABI = 1  # the number of the interface that this file is written for: VEKTRID_ABI of the header
+__version__ = '1.1.0'  # of the bindings; rust/vektrid has the same
+ABI = 2  # the number of the interface that this file is written for: VEKTRID_ABI of the header
 
 LARGEST_LEVEL = 32
 LAST_INDEX = 2**32 - 1  # and the largest word
-LONGEST_LINE = 46  # bytes of the longest line of a listing: a piece must have room for it
+LONGEST_LINE = 46  # bytes of the longest line of a listing: a piece of it, or of a sheet, must have room for it
+_PAGE = 1400  # bytes of a page of a sheet: 50 lines of 27 columns and a line feed
 
 
 # ---- refusals: one class for each line of docs/REFUSALS.md, against which tools/refusals holds the number and the words of each
@@ -263,10 +264,15 @@ class _Cursor(ctypes.Structure):
     _fields_ = [('words', ctypes.c_uint32 * 13)]
 
 
+class _SheetCursor(ctypes.Structure):
+    _fields_ = [('words', ctypes.c_uint32 * 14)]
+
+
 _WORD, _LONG, _SIGNED, _SIZE = ctypes.c_uint32, ctypes.c_uint64, ctypes.c_int32, ctypes.c_size_t
 _SINGLE, _FILE = ctypes.c_float, [ctypes.c_char_p, ctypes.c_size_t]  # a file is lent as bytes, which no call writes
 _TO_WORD, _TO_LONG, _TO_SIGNED, _TO_SINGLE = (ctypes.POINTER(kind) for kind in (_WORD, _LONG, _SIGNED, _SINGLE))
 _PAIR = [_TO_WORD, _SIZE, _WORD, _WORD]  # the words, how many, and the two words of the shift
+_BUFFER = [ctypes.POINTER(ctypes.c_uint8), _SIZE]  # where a piece of text is written
 
 # For each call of include/vektrid.h: the type of its answer, and those of its arguments.
 _CALLS = {
@@ -289,7 +295,9 @@ _CALLS = {
     'vektrid_file_walk_open': (_WORD, _FILE + [ctypes.POINTER(_FileWalk)]),
     'vektrid_file_walk_step': (None, _FILE + [ctypes.POINTER(_FileWalk)] + 3 * [_TO_WORD] + 2 * [_TO_SIGNED]),
     'vektrid_listing_open': (None, _FILE + [ctypes.POINTER(_Cursor)]),
-    'vektrid_listing_piece': (_SIZE, _FILE + [ctypes.POINTER(_Cursor), ctypes.POINTER(ctypes.c_uint8), _SIZE]),
+    'vektrid_listing_piece': (_SIZE, _FILE + [ctypes.POINTER(_Cursor)] + _BUFFER),
+    'vektrid_sheet_open': (None, _FILE + [ctypes.POINTER(_SheetCursor)]),
+    'vektrid_sheet_piece': (_SIZE, _FILE + [ctypes.POINTER(_SheetCursor)] + _BUFFER),
 }
 
 
@@ -710,7 +718,7 @@ def _visits_from(file, walk):
 
 
 def listing(file):
-    """The listing of a region file, given as bytes, as text: what the program prints. Positions are in micrometres.
+    """The listing of a region file, given as bytes, as text: what list_visits prints. Positions are in micrometres.
 
     A refused file is listed too, as the one line `refused`, a space and the number; judge raises the refusal instead.
     """
@@ -719,16 +727,71 @@ def listing(file):
 
 def listing_pieces(file, room=65536):
     """The listing as an iterator of pieces, each of whole lines, as bytes, and at most `room` bytes long (46, the longest line, or more)."""
-    file, cursor = _content(file), _Cursor()
-    room = _whole('room', room, low=LONGEST_LINE)
-    _library.vektrid_listing_open(file, len(file), cursor)
-    return _pieces_from(file, cursor, room)
+    return _pieces(_library.vektrid_listing_open, _library.vektrid_listing_piece, _Cursor(), file, room)
 
 
-def _pieces_from(file, cursor, room):
+def sheet(file):
+    """The visit sheet of a region file, given as bytes, as text: its listing set in pages, for readers who tick visits off on paper.
+
+    A page has 50 lines of exactly 27 columns: the words rec, vis, x and y; 48 lines for visits, with record, visit, x and y in 4, 4, 8 and 8
+    columns; and the number of the page, from 1 on. Everything is right-aligned. Lines that the last page does not need are blanks, and a file
+    without visits has one page.
+
+    The sheet of a refused file is its listing, the one line `refused`, a space and the number; sheet_pages raises the refusal instead.
+    """
+    return b''.join(sheet_pieces(file)).decode('ascii')
+
+
+def sheet_pieces(file, room=65536):
+    """The sheet as an iterator of pieces, each of whole lines, as bytes, and at most `room` bytes long (46, the longest line, or more).
+
+    A piece may end within a page; sheet_pages gives whole ones.
+    """
+    return _pieces(_library.vektrid_sheet_open, _library.vektrid_sheet_piece, _SheetCursor(), file, room)
+
+
+def sheet_pages(file):
+    """An iterator over the pages of a file's sheet, each a text of 50 lines. The file is judged at once. Refused: as judge says.
+
+    >>> import struct, vektrid
+    >>> file = struct.pack('<II24x', 1, 2) + struct.pack('<IiiIIIII', 0, -500, 0, 1000, 800, 0, 0, 4)
+    >>> for page in vektrid.sheet_pages(file):
+    ...     lines = page.splitlines()
+    ...     print('\\n'.join(lines[:5] + ['..'] + lines[49:]))
+     rec  vis        x        y
+       1    0     -500        0
+       1    1        0      400
+       1    2     -250      600
+       1    3      250      200
+    ..
+                              1
+    """
+    file = _content(file)
+    judge(file)
+    return _pages_from(sheet_pieces(file))
+
+
+def _pages_from(pieces):
+    """The pages that these pieces make, wherever a piece ends."""
+    rest = b''
+    for piece in pieces:
+        rest += piece
+        while len(rest) >= _PAGE:
+            yield rest[:_PAGE].decode('ascii')
+            rest = rest[_PAGE:]
+
+
+def _pieces(start, following, cursor, file, room):
+    """An iterator over the pieces of a text, by the calls that start it and give the next piece, and a cursor of its kind."""
+    file, room = _content(file), _whole('room', room, low=LONGEST_LINE)
+    start(file, len(file), cursor)
+    return _pieces_from(following, file, cursor, room)
+
+
+def _pieces_from(following, file, cursor, room):
     piece = (ctypes.c_uint8 * room)()
     while True:
-        written = _library.vektrid_listing_piece(file, len(file), cursor, piece, room)
+        written = following(file, len(file), cursor, piece, room)
         if not written:
             return
         yield ctypes.string_at(piece, written)

@@ -1,5 +1,5 @@
-/* Tests of every call of include/vektrid.h: each refusal under its number, what a refused call leaves as it was, and the known points and the
- * example listing of the requirements. C99, C11 and C++17 compile it; tests/c/run does, and runs it.
+/* Tests of every call of include/vektrid.h: each refusal under its number, what a refused call leaves as it was, and the known points, the
+ * example listing and the sheet of the requirements. C99, C11 and C++17 compile it; tests/c/run does, and runs it.
  *
  * What is expected comes from the requirements: their examples, or their definitions written out again here (column_of, point_of).
  */
@@ -527,15 +527,35 @@ static void visits_of_none(void) {
     CHECK(out[0] == 0 && all_kept(out + 1, 2) && x == 77 && y == 77);
 }
 
-/* The whole listing in pieces of some room: each piece within its room, whole lines, and nothing written past them. */
-static size_t listing(size_t size, size_t room, char *text, size_t text_room) {
+/* The two texts of a file. Both are opened and written piece by piece alike, each with a cursor of its own. */
+enum text { LISTING, SHEET };
+
+struct cursors {
+    vektrid_cursor listing;
+    vektrid_sheet_cursor sheet;
+};
+
+static void open_text(enum text of, size_t size, struct cursors *cursors) {
+    if (of == LISTING)
+        vektrid_listing_open(file, size, &cursors->listing);
+    else
+        vektrid_sheet_open(file, size, &cursors->sheet);
+}
+
+static size_t next_piece(enum text of, size_t size, struct cursors *cursors, uint8_t *out, size_t room) {
+    return of == LISTING ? vektrid_listing_piece(file, size, &cursors->listing, out, room)
+                         : vektrid_sheet_piece(file, size, &cursors->sheet, out, room);
+}
+
+/* The whole text in pieces of some room: each piece within its room, whole lines, and nothing written past them. */
+static size_t whole(enum text of, size_t size, size_t room, char *text, size_t text_room) {
     uint8_t piece[128];
-    vektrid_cursor cursor;
+    struct cursors cursors;
     size_t length = 0;
-    vektrid_listing_open(file, size, &cursor);
+    open_text(of, size, &cursors);
     for (;;) {
         memset(piece, BYTE_KEPT, sizeof piece);
-        size_t written = vektrid_listing_piece(file, size, &cursor, piece, room);
+        size_t written = next_piece(of, size, &cursors, piece, room);
         CHECK(written <= room && length + written < text_room);
         if (written > room || length + written >= text_room)
             break;
@@ -551,11 +571,12 @@ static size_t listing(size_t size, size_t room, char *text, size_t text_room) {
     return length;
 }
 
-static void listings(void) {
-    char text[256], expected[24];
+/* The text of the example, of a file without visits, and of every refused file. */
+static void texts(enum text of, const char *of_example, const char *of_none) {
+    char text[2048], expected[24];
     for (size_t room = 46; room <= 128; room++) {
         put_example();
-        CHECK(listing(64, room, text, sizeof text) == strlen(example_listing) && strcmp(text, example_listing) == 0);
+        CHECK(whole(of, 64, room, text, sizeof text) == strlen(of_example) && strcmp(text, of_example) == 0);
     }
     for (size_t i = 0; i < sizeof changes / sizeof changes[0]; i++) {
         if (changes[i].answer == 0)
@@ -563,27 +584,147 @@ static void listings(void) {
         put_example();
         put(changes[i].at, changes[i].value);
         snprintf(expected, sizeof expected, "refused %u\n", (unsigned)changes[i].answer);
-        listing(changes[i].size, 46, text, sizeof text);
+        whole(of, changes[i].size, 46, text, sizeof text);
         CHECK(strcmp(text, expected) == 0);
     }
     put_example();
     put(0, 0);
-    listing(64, 46, text, sizeof text);
-    CHECK(strcmp(text, "record visit x y\n") == 0);
+    whole(of, 64, 46, text, sizeof text);
+    CHECK(strcmp(text, of_none) == 0);
 }
 
-/* Less room than the longest line: nothing is written, and the listing can go on with more. */
-static void listing_without_room(void) {
+/* Less room than the longest line: nothing is written, and the text can go on with more. */
+static void text_without_room(enum text of, const char *first_line) {
     uint8_t piece[64];
-    vektrid_cursor cursor;
+    struct cursors cursors;
     put_example();
-    vektrid_listing_open(file, 64, &cursor);
+    open_text(of, 64, &cursors);
     memset(piece, BYTE_KEPT, sizeof piece);
-    CHECK(vektrid_listing_piece(file, 64, &cursor, piece, 45) == 0);
-    CHECK(vektrid_listing_piece(file, 64, &cursor, piece, 0) == 0);
+    CHECK(next_piece(of, 64, &cursors, piece, 45) == 0);
+    CHECK(next_piece(of, 64, &cursors, piece, 0) == 0);
     for (size_t i = 0; i < sizeof piece; i++)
         CHECK(piece[i] == BYTE_KEPT);
-    CHECK(vektrid_listing_piece(file, 64, &cursor, piece, 46) > 0 && memcmp(piece, "record visit x y\n", 17) == 0);
+    CHECK(next_piece(of, 64, &cursors, piece, 46) > 0 && memcmp(piece, first_line, strlen(first_line)) == 0);
+}
+
+static void listings(void) {
+    texts(LISTING, example_listing, "record visit x y\n");
+    text_without_room(LISTING, "record visit x y\n");
+}
+
+/* ---- sheets: lines of 27 columns and a line feed, 50 of them a page */
+
+enum { LINE = 28, PAGE_LINES = 50, PAGE = LINE * PAGE_LINES };
+
+static const char *const heading = " rec  vis        x        y\n";
+
+/* A page with these lines for visits, blank ones behind them, and its number; and where it ends. */
+static char *put_page(char *at, const char *lines, int number) {
+    size_t length = strlen(lines);
+    memcpy(at, heading, LINE);
+    memcpy(at + LINE, lines, length);
+    for (size_t line = 1 + length / LINE; line < PAGE_LINES - 1; line++)
+        snprintf(at + line * LINE, LINE + 1, "%27s\n", "");
+    snprintf(at + PAGE - LINE, LINE + 1, "%27d\n", number);
+    return at + PAGE;
+}
+
+/* All visits of the example, as lines of 27 columns. */
+static const char *const example_lines = "   1    0     -500        0\n"
+                                         "   1    1        0      400\n"
+                                         "   1    2     -250      600\n"
+                                         "   1    3      250      200\n";
+
+static void sheets(void) {
+    char of_example[PAGE + 1], of_none[PAGE + 1];
+    put_page(of_example, example_lines, 1);
+    put_page(of_none, "", 1);
+    texts(SHEET, of_example, of_none);
+    text_without_room(SHEET, heading);
+}
+
+/* 48 visits fill a page, and one more begins another. The lines are made of the visits that a walk gives. */
+static void sheet_of_many_visits(uint32_t count) {
+    static char text[4 * PAGE], expected[4 * PAGE], lines[PAGE];
+    char *end = expected;
+    int page = 0;
+    vektrid_file_walk walk;
+    uint32_t given, record, index;
+    int32_t x, y;
+    put_example();
+    put(60, count);
+    CHECK(vektrid_file_walk_open(file, 64, &walk) == 0);
+    vektrid_file_walk_step(file, 64, &walk, &given, &record, &index, &x, &y);
+    do {
+        size_t length = 0;
+        for (; given && length < 48 * LINE; length += LINE) {
+            snprintf(lines + length, LINE + 1, "%4u %4u %8d %8d\n", (unsigned)record, (unsigned)index, (int)x, (int)y);
+            vektrid_file_walk_step(file, 64, &walk, &given, &record, &index, &x, &y);
+        }
+        lines[length] = 0;
+        end = put_page(end, lines, ++page);
+    } while (given);
+    CHECK(page == (count <= 48 ? 1 : count <= 96 ? 2 : 3));
+    for (size_t room = 46; room <= 128; room += 41) {
+        CHECK(whole(SHEET, 64, room, text, sizeof text) == (size_t)(end - expected));
+        CHECK(strcmp(text, expected) == 0);
+    }
+}
+
+static void sheets_of_many_visits(void) {
+    static const uint32_t counts[7] = {0, 1, 47, 48, 49, 96, 97};
+    for (int i = 0; i < 7; i++)
+        sheet_of_many_visits(counts[i]);
+}
+
+/* A cursor that is copied after any line goes on as the cursor itself, and at the end it stays. */
+static void copied_sheet_cursor(void) {
+    char expected[PAGE + 1];
+    vektrid_sheet_cursor cursor, copy;
+    put_example();
+    put_page(expected, example_lines, 1);
+    vektrid_sheet_open(file, 64, &cursor);
+    for (size_t line = 0; line < PAGE_LINES + 2; line++) {
+        uint8_t piece[64], again[64];
+        size_t length = line < PAGE_LINES ? LINE : 0;
+        copy = cursor;
+        CHECK(vektrid_sheet_piece(file, 64, &cursor, piece, 46) == length);
+        CHECK(vektrid_sheet_piece(file, 64, &copy, again, 46) == length);
+        CHECK(length == 0 || (memcmp(piece, expected + line * LINE, length) == 0 && memcmp(again, piece, length) == 0));
+    }
+}
+
+/* The words of a cursor as crates/cursor_words/specs/SheetCursors.antt reads them: the kind of the place, the number of a refusal or of lines,
+ * the page, and a walk, which has ended where its words are 0. Only the first line is looked at. */
+static void words_of_sheet_cursors(void) {
+    static const struct {
+        uint32_t words[3];
+        const char *line;
+    } places[8] = {
+        {{0, 7, 3}, ""},                                  /* the end */
+        {{1, 7, 3}, " rec  vis        x        y\n"},     /* the heading of a page */
+        {{2, 1, 3}, "                           \n"},     /* a line for a visit, of which none is to come */
+        {{2, 0, 3}, "                          3\n"},     /* the number of the page */
+        {{2, 0, LAST}, "                 4294967295\n"},  /* the largest number of a page */
+        {{3, 7, 3}, "refused 7\n"},                       /* the line of a refused file */
+        {{3, LAST, 3}, "refused 4294967295\n"},           /* with a number that no refusal has */
+        {{LAST, 7, 3}, "refused 7\n"},                    /* every kind above 2 is that of a refusal */
+    };
+    put_example();
+    for (int n = 0; n < 8; n++) {
+        uint8_t piece[46];
+        size_t length = strlen(places[n].line);
+        vektrid_sheet_cursor cursor = {{0}};
+        memcpy(cursor.words, places[n].words, sizeof places[n].words);
+        CHECK(vektrid_sheet_piece(file, 64, &cursor, piece, sizeof piece) == length && memcmp(piece, places[n].line, length) == 0);
+    }
+}
+
+/* The header says how many words each cursor has, and a cursor is these words alone. */
+static void sizes(void) {
+    CHECK(sizeof(vektrid_file_walk) == 11 * 4);
+    CHECK(sizeof(vektrid_cursor) == 13 * 4);
+    CHECK(sizeof(vektrid_sheet_cursor) == 14 * 4);
 }
 
 /* File walks and cursors of any content are answered: no step writes past its words, no piece past its room. */
@@ -595,18 +736,22 @@ static void any_content(void) {
         uint32_t given = KEPT, record, index;
         int32_t x, y;
         vektrid_file_walk walk;
-        vektrid_cursor cursor;
+        struct cursors cursors;
         for (int i = 0; i < 11; i++)
             walk.words[i] = contents[n];
         for (int i = 0; i < 13; i++)
-            cursor.words[i] = contents[n];
+            cursors.listing.words[i] = contents[n];
+        for (int i = 0; i < 14; i++)
+            cursors.sheet.words[i] = contents[n];
         vektrid_file_walk_step(file, 64, &walk, &given, &record, &index, &x, &y);
         CHECK(given == 0 || given == 1);
-        memset(piece, BYTE_KEPT, sizeof piece);
-        size_t written = vektrid_listing_piece(file, 64, &cursor, piece, 50);
-        CHECK(written <= 50);
-        for (size_t i = written; i < sizeof piece; i++)
-            CHECK(piece[i] == BYTE_KEPT);
+        for (int of = LISTING; of <= SHEET; of++) {
+            memset(piece, BYTE_KEPT, sizeof piece);
+            size_t written = next_piece((enum text)of, 64, &cursors, piece, 50);
+            CHECK(written <= 50);
+            for (size_t i = written; i < sizeof piece; i++)
+                CHECK(piece[i] == BYTE_KEPT);
+        }
     }
 }
 
@@ -638,7 +783,11 @@ int main(void) {
     visits();
     visits_of_none();
     listings();
-    listing_without_room();
+    sheets();
+    sheets_of_many_visits();
+    copied_sheet_cursor();
+    words_of_sheet_cursors();
+    sizes();
     any_content();
     for (int number = 1; number <= 15; number++)
         CHECK(refused[number] > 0);

@@ -1,26 +1,22 @@
--- The words of a cursor's walk read one by one, and a piece between cursors that are the same.
+-- The walk of the last words of a cursor, and a piece of a text between cursors that are the same.
 -- Assumes nothing.
-use mathlib.Core.Path.{_≡_, refl, subst}
-use mathlib.Core.List.{List, [], _∷_}
-use Prim.Native.Nat.{ℕ}
-use lib.ListN.{getD, drop}
-use Rattle.listing.specs.declared.cursors.Cursor.{Cursor}
-use Rattle.listing.specs.Cursor.{ListingPiece}
+use mathlib.Core.Path.{_≡_, ap, subst}
+use mathlib.Core.List.{List}
+use Prim.Native.Nat.{ℕ, _+_, _-_, _≤_}
+use native.Mathlib.Omega.{arith}
+use lib.ListN.{length, take, drop, length-drop}
+use lib.Seq.{take-all}
+use Rattle.text.specs.Pieces.{Piece}
 use Rattle.file_words.specs.Words.{walk-of}
 
--- the words of a cursor behind the first two, read one by one
-abbrev pub behind : List ℕ → List ℕ
-behind ws =
-    getD ws 2 0 ∷ getD ws 3 0 ∷ getD ws 4 0 ∷ getD ws 5 0 ∷ getD ws 6 0 ∷ getD ws 7 0 ∷ getD ws 8 0 ∷ getD ws 9 0 ∷ getD ws 10 0
-    ∷ getD ws 11 0 ∷ getD ws 12 0 ∷ []
+-- the eleven words behind the first n, lent as a part of n + 11
+pub part-walk : (n : ℕ) (ws : List ℕ) → length ws ≡ n + 11 → walk-of (take 11 (drop n ws)) ≡ walk-of (drop n ws)
+part-walk n ws e = ap walk-of (take-all 11 (drop n ws) (few (length-drop n ws)))
+  where
+    few : length (drop n ws) ≡ length ws - n → length (drop n ws) ≤ 11
+    few f = omega arith
 
-pub behind-walk : (ws : List ℕ) → walk-of (behind ws) ≡ walk-of (drop 2 ws)
-behind-walk [] = refl
-behind-walk (a ∷ []) = refl
-behind-walk (a ∷ b ∷ ws) = refl
-
--- a piece of a listing, between cursors that are the same
-pub piece-same : (file piece : List ℕ) (room : ℕ) {c c' d d' : Cursor} → c ≡ c' → d ≡ d' → ListingPiece file c d piece room
-    → ListingPiece file c' d' piece room
-piece-same file piece room {c} {c'} {d} {d'} e f h =
-    subst (λ (x : Cursor). ListingPiece file c' x piece room) f (subst (λ (x : Cursor). ListingPiece file x d piece room) e h)
+pub piece-same : {C : Type 0} {to-come : C → List ℕ} {w room : ℕ} {c c' d d' : C} {piece : List ℕ} → c ≡ c' → d ≡ d'
+    → Piece to-come w c d piece room → Piece to-come w c' d' piece room
+piece-same {C} {to-come} {w} {room} {c} {c'} {d} {d'} {piece} e f h =
+    subst (λ (x : C). Piece to-come w c' x piece room) f (subst (λ (x : C). Piece to-come w x d piece room) e h)

@@ -1,16 +1,14 @@
 // A cursor in a listing as words, and back.
-use file_words::walk_of;
+use crate::parts::Tag;
+use crate::parts::walk_of_part;
 use file_words::words_of;
 use listing::Cursor;
 use listing::Lead;
 ghost use mathlib.Core.Path.{_≡_};
-ghost use lib.ListN.{getD};
 ghost use Rattle.cursor_words.specs.Cursors.{lead-of, cursor-of};
 
-// The kind of what stands before the lines, and the number of a refusal.
-const LEAD_WORDS: usize = 2;
-
-type LeadWords = [u32; LEAD_WORDS];
+// The words that come before those of a file walk.
+const WORDS_BEFORE_WALK: usize = 2;
 
 // Two words for what stands before the lines, and those of a file walk.
 pub const CURSOR_WORDS: usize = 13;
@@ -32,13 +30,13 @@ fn lead_of(kind: u32, number: u32) -> Lead
 }
 
 // Two words that stand for what comes before the lines.
-fn words_of_lead(lead: Lead) -> LeadWords
-    ensures { λ r. ⌜ lead-of (getD r 0 0) (getD r 1 0) ≡ lead ⌝ }
+fn tag_of_lead(lead: Lead) -> Tag
+    ensures { λ r. ⌜ lead-of (r .kind) (r .number) ≡ lead ⌝ }
 {
     match lead {
-        Lead::Nothing => [0, 0],
-        Lead::Header => [1, 0],
-        Lead::Refused(number) => [2, number],
+        Lead::Nothing => Tag { kind: 0, number: 0 },
+        Lead::Header => Tag { kind: 1, number: 0 },
+        Lead::Refused(number) => Tag { kind: 2, number },
     }
 }
 
@@ -48,19 +46,7 @@ pub fn cursor_of(words: CursorWords) -> Cursor
 {
     Cursor {
         lead: lead_of(words[0], words[1]),
-        walk: walk_of([
-            words[2],
-            words[3],
-            words[4],
-            words[5],
-            words[6],
-            words[7],
-            words[8],
-            words[9],
-            words[10],
-            words[11],
-            words[12],
-        ]),
+        walk: walk_of_part(&words[WORDS_BEFORE_WALK..]),
     }
 }
 
@@ -69,11 +55,11 @@ pub fn words_of_cursor(cursor: Cursor) -> CursorWords
     ensures { λ r. ⌜ cursor-of r ≡ cursor ⌝ }
 {
     let lead = cursor.lead;
-    let kind = words_of_lead(lead);
+    let tag = tag_of_lead(lead);
     let walk = words_of(cursor.walk);
     [
-        kind[0],
-        kind[1],
+        tag.kind,
+        tag.number,
         walk[0],
         walk[1],
         walk[2],

@@ -11,5 +11,6 @@ mod pairs;
 mod points;
 mod positions;
 mod query;
+mod sheets;
 mod units;
 mod walks;

@@ -22,6 +22,14 @@ pub struct Cursor {
     pub words: [u32; 13],
 }
 
+/// A cursor in the visit sheet of a region file (`vektrid_sheet_cursor`). Every content is answered.
+#[repr(C)]
+#[derive(Clone, Copy, Debug, PartialEq, Eq, Hash)]
+pub struct SheetCursor {
+    /// Words that only the library reads.
+    pub words: [u32; 14],
+}
+
 extern "C" {
     /// The number of the library's interface.
     pub fn vektrid_abi() -> u32;
@@ -176,6 +184,18 @@ extern "C" {
         file: *const u8,
         size: usize,
         cursor: *mut Cursor,
+        out: *mut u8,
+        room: usize,
+    ) -> usize;
+
+    /// The start of a file's sheet.
+    pub fn vektrid_sheet_open(file: *const u8, size: usize, cursor: *mut SheetCursor);
+
+    /// The next piece of a sheet.
+    pub fn vektrid_sheet_piece(
+        file: *const u8,
+        size: usize,
+        cursor: *mut SheetCursor,
         out: *mut u8,
         room: usize,
     ) -> usize;

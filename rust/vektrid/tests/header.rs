@@ -4,7 +4,7 @@
 
 use std::mem::size_of;
 
-use vektrid::raw::{self, Cursor, FileWalk};
+use vektrid::raw::{self, Cursor, FileWalk, SheetCursor};
 use vektrid::{Refusal, ABI};
 
 const HEADER: &str = include_str!(concat!(env!("CARGO_MANIFEST_DIR"), "/../../include/vektrid.h"));
@@ -57,6 +57,7 @@ fn rust_type(c_type: &str) -> &'static str {
         "double" => "f64",
         "vektrid_file_walk" => "FileWalk",
         "vektrid_cursor" => "Cursor",
+        "vektrid_sheet_cursor" => "SheetCursor",
         other => panic!("a type that raw.rs does not have: {other}"),
     }
 }
@@ -74,7 +75,7 @@ fn declared_in_rust() -> Vec<String> {
 #[test]
 fn declarations_are_those_of_the_header() {
     let (c, rust) = (declared_in_c(), declared_in_rust());
-    assert_eq!(c.len(), 20);
+    assert_eq!(c.len(), 22);
     assert_eq!(c[0], "vektrid_abi() -> u32");
     assert_eq!(c[3].split_once(',').unwrap().0, "vektrid_point(words: *const u32");
     assert_eq!(c, rust);
@@ -89,7 +90,12 @@ fn interface_has_the_number_of_the_header() {
 
 #[test]
 fn structures_have_the_words_of_the_header() {
-    for (name, size) in [("file_walk", size_of::<FileWalk>()), ("cursor", size_of::<Cursor>())] {
+    let structures = [
+        ("file_walk", size_of::<FileWalk>()),
+        ("cursor", size_of::<Cursor>()),
+        ("sheet_cursor", size_of::<SheetCursor>()),
+    ];
+    for (name, size) in structures {
         let start = format!("typedef struct vektrid_{name} {{\n    uint32_t words[{}];", size / 4);
         assert!(header().contains(&start));
     }

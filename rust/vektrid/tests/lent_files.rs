@@ -6,8 +6,8 @@ mod common;
 use std::time::{Duration, Instant};
 
 use common::{example, example_with, COUNT, LEVEL, NEXT, RESERVED, WIDTH};
-use vektrid::raw::{self, FileWalk};
-use vektrid::{visits, Listing, Visits, LONGEST_LINE};
+use vektrid::raw::{self, Cursor, FileWalk, SheetCursor};
+use vektrid::{visits, Listing, Sheet, Visits, LONGEST_LINE};
 
 const MARK: u32 = 0xDEAD_BEEF;
 
@@ -77,19 +77,38 @@ fn ended_visits_keep_their_words() {
     assert_eq!((given, record, index, x, y), (0, MARK, MARK, -77, -78));
 }
 
+/// The length of a piece into a buffer of this room. What stands behind the piece keeps its content,
+/// in the buffer and past its end.
+fn piece_in(room: usize, piece: impl FnOnce(&mut [u8]) -> usize) -> usize {
+    let mut memory = vec![0xEE; room + 8];
+    let length = piece(&mut memory[..room]);
+    assert!(length <= room);
+    assert!(memory[length..].iter().all(|&byte| byte == 0xEE));
+    length
+}
+
 #[test]
 fn piece_keeps_the_bytes_behind_it() {
     let file = example();
     for room in 0..200 {
-        let mut listing = Listing::open(&file);
-        let mut buffer = vec![0xEE; room];
-        let length = listing.piece(&mut buffer);
-        assert!(buffer[length..].iter().all(|&byte| byte == 0xEE));
+        let length = piece_in(room, |buffer| Listing::open(&file).piece(buffer));
+        assert_eq!(length == 0, room < LONGEST_LINE);
+        let length = piece_in(room, |buffer| Sheet::open(&file).piece(buffer));
         assert_eq!(length == 0, room < LONGEST_LINE);
     }
 }
 
-/// Each word of a file walk in the middle of the example is changed in turn.
+/// Each of the words changed in turn.
+fn changed<const N: usize>(words: [u32; N]) -> impl Iterator<Item = [u32; N]> {
+    let places = (0..N).flat_map(|at| NUMBERS.map(|number| (at, number)));
+    places.map(move |(at, number)| {
+        let mut changed = words;
+        changed[at] = number;
+        changed
+    })
+}
+
+/// A file walk in the middle of the example, with changes.
 #[test]
 fn file_walks_made_by_hand_are_answered() {
     let file = example();
@@ -97,14 +116,10 @@ fn file_walks_made_by_hand_are_answered() {
     opened.next();
     let stage = -1_000_000..2_000_000;
     let mut given = 0;
-    for at in 0..opened.walk().words.len() {
-        for number in NUMBERS {
-            let mut walk = opened.walk();
-            walk.words[at] = number;
-            for visit in Visits::at(&file, walk).take(5) {
-                assert!(stage.contains(&visit.x) && stage.contains(&visit.y));
-                given += 1;
-            }
+    for words in changed(opened.walk().words) {
+        for visit in Visits::at(&file, FileWalk { words }).take(5) {
+            assert!(stage.contains(&visit.x) && stage.contains(&visit.y));
+            given += 1;
         }
     }
     // A walk that has ended is an answer too, but not the only one.
@@ -124,23 +139,24 @@ fn file_walk_made_by_hand_follows_no_more_links_than_a_file_has_records() {
     assert!(start.elapsed() < Duration::from_secs(5));
 }
 
-/// The same with the words of a cursor.
+/// The same with a cursor of a listing.
 #[test]
 fn cursors_made_by_hand_are_answered() {
     let file = example();
     let mut opened = Listing::open(&file);
     opened.piece(&mut [0; LONGEST_LINE]);
-    let mut written = 0;
-    for at in 0..opened.cursor().words.len() {
-        for number in NUMBERS {
-            let mut cursor = opened.cursor();
-            cursor.words[at] = number;
-            let mut buffer = [0xEE; 100];
-            let length = Listing::at(&file, cursor).piece(&mut buffer[..92]);
-            assert!(length <= 92);
-            assert!(buffer[length..].iter().all(|&byte| byte == 0xEE));
-            written += length;
-        }
-    }
-    assert!(written > 1_000);
+    let lengths = changed(opened.cursor().words)
+        .map(|words| piece_in(92, |buffer| Listing::at(&file, Cursor { words }).piece(buffer)));
+    assert!(lengths.sum::<usize>() > 1_000);
+}
+
+/// And with one of a sheet.
+#[test]
+fn sheet_cursors_made_by_hand_are_answered() {
+    let file = example();
+    let mut opened = Sheet::open(&file);
+    opened.piece(&mut [0; LONGEST_LINE]);
+    let lengths = changed(opened.cursor().words)
+        .map(|words| piece_in(92, |buffer| Sheet::at(&file, SheetCursor { words }).piece(buffer)));
+    assert!(lengths.sum::<usize>() > 1_000);
 }

@@ -1,8 +1,9 @@
--- `cursors::cursor_of`: the words of the walk, read one by one, are the words behind the first two (`behind-walk`).
+-- `cursors::cursor_of`: the two words before the walk, and the part of the words behind them.
 -- Assumes nothing.
 use mathlib.Core.Path.{_∙_}
+use native.Mathlib.Omega.{arith}
 use borrow.Author.Needs.{needs}
-use Rattle.cursor_words.proofs.Same.{behind-walk}
+use Rattle.cursor_words.proofs.Same.{part-walk}
 use Rattle.cursor_words.proofs.cursors.cursor_of.Statement.{statement}
 use Rattle.cursor_words.proofs.cursors.cursor_of.Tie as tie
 
@@ -15,46 +16,23 @@ array-read-lead-of-2 c = search needs
 lead-of-requires : tie.Need-lead-of-requires
 lead-of-requires c κs = search needs
 
-array-read-t13 : tie.Need-array-read-t13
-array-read-t13 c = search needs
+sub-walk-of-part : tie.Need-sub-walk-of-part
+sub-walk-of-part c = search needs
 
-array-read-t16 : tie.Need-array-read-t16
-array-read-t16 c = search needs
+part-walk-of-part-start : tie.Need-part-walk-of-part-start
+part-walk-of-part-start c = search needs
 
-array-read-t19 : tie.Need-array-read-t19
-array-read-t19 c = search needs
+part-walk-of-part-end : tie.Need-part-walk-of-part-end
+part-walk-of-part-end c = search needs
 
-array-read-t22 : tie.Need-array-read-t22
-array-read-t22 c = search needs
-
-array-read-t25 : tie.Need-array-read-t25
-array-read-t25 c = search needs
-
-array-read-t28 : tie.Need-array-read-t28
-array-read-t28 c = search needs
-
-array-read-t31 : tie.Need-array-read-t31
-array-read-t31 c = search needs
-
-array-read-t34 : tie.Need-array-read-t34
-array-read-t34 c = search needs
-
-array-read-t37 : tie.Need-array-read-t37
-array-read-t37 c = search needs
-
-array-read-t40 : tie.Need-array-read-t40
-array-read-t40 c = search needs
-
-array-read-t43 : tie.Need-array-read-t43
-array-read-t43 c = search needs
-
-walk-of-requires : tie.Need-walk-of-requires
-walk-of-requires c κs = search needs
+walk-of-part-requires : tie.Need-walk-of-part-requires
+walk-of-part-requires c κs = search needs
 
 returns : tie.Need-returns
 returns c =
-    let walk = c .walk-of .ensures ∙ behind-walk (c .before .before .args .t1) in
-    λ i. record { lead = c .before .lead-of .ensures i; walk = walk i }
+    let words = c .before .before .before .before .args .t1 in
+    let walk = c .walk-of-part .ensures ∙ part-walk 2 words (omega arith) in
+    λ i. record { lead = c .before .before .before .lead-of .ensures i; walk = walk i }
 
 pub cursor-of-spec : {M : Type 1} → statement M
 cursor-of-spec =
@@ -63,16 +41,8 @@ cursor-of-spec =
     array-read-lead-of
     array-read-lead-of-2
     lead-of-requires
-    array-read-t13
-    array-read-t16
-    array-read-t19
-    array-read-t22
-    array-read-t25
-    array-read-t28
-    array-read-t31
-    array-read-t34
-    array-read-t37
-    array-read-t40
-    array-read-t43
-    walk-of-requires
+    sub-walk-of-part
+    part-walk-of-part-start
+    part-walk-of-part-end
+    walk-of-part-requires
     returns)

@@ -2,7 +2,6 @@
 -- Assumes nothing.
 use mathlib.Core.Path.{sym}
 use borrow.Author.Needs.{needs}
-use denote.Ref.{now}
 use Rattle.cursor_words.proofs.Same.{piece-same}
 use Rattle.cursor_words.proofs.pieces.piece_words.Statement.{statement}
 use Rattle.cursor_words.proofs.pieces.piece_words.Tie as tie
@@ -22,10 +21,9 @@ same-length c = search needs
 returns : tie.Need-returns
 returns c =
     let d = c .before .before .before in
-    let s = d .before .before .before .before .before in
     let piece = d .piece .ensures .1 in
-    let same = piece-same (now (s .args .file)) _ _ (d .before .before .cursor-of .ensures) (sym (c .words-of-cursor .ensures)) in
-    (d .piece .ensures .0, (same (piece .0), piece .1))
+    let same = piece-same (d .before .before .cursor-of .ensures) (sym (c .words-of-cursor .ensures)) (piece .0) in
+    (d .piece .ensures .0, (same, piece .1))
 
 pub piece-words-spec : {M : Type 1} → statement M
 piece-words-spec =
