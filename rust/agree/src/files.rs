@@ -1,10 +1,11 @@
-//! Region files, most of them damaged: their judgement and where it stopped, their visits and their
-//! listing.
+//! Region files, most of them damaged: their judgement and where it stopped, their visits, their
+//! listing and their sheet.
 
-use reference::listing;
 use reference::region_file::{self, chain, visits};
+use reference::sheet::PAGE_BYTES;
 use reference::trial::splitmix::Splitmix;
 use reference::trial::{files, shrink};
+use reference::{listing, sheet};
 use vektrid::{FileVisit, Refusal, Stopped};
 
 use crate::case::{simplified, Case};
@@ -22,6 +23,8 @@ pub struct Answer {
     link: Result<(), Stopped>,
     visits: Result<Vec<FileVisit>, Refusal>,
     listing: Vec<u8>,
+    sheet: Vec<u8>,
+    pages: Result<Vec<Vec<u8>>, Refusal>,
 }
 
 impl Case for RegionFile {
@@ -39,7 +42,9 @@ impl Case for RegionFile {
         let visits = chain.map(|chain| visits(&chain).map(file_visit).collect::<Vec<_>>());
         let judged = visits.as_ref().map(|_| ()).map_err(|&refusal| refusal);
         let link = region_file::judged(&self.bytes).map_err(stopped);
-        Answer { judged, link, visits, listing: listing::listing(&self.bytes) }
+        let (listing, sheet) = (listing::listing(&self.bytes), sheet::sheet(&self.bytes));
+        let pages = judged.map(|()| sheet.chunks(PAGE_BYTES).map(<[u8]>::to_vec).collect());
+        Answer { judged, link, visits, listing, sheet, pages }
     }
 
     fn given(&self) -> Answer {
@@ -48,6 +53,9 @@ impl Case for RegionFile {
             link: vektrid::judge_link(&self.bytes),
             visits: vektrid::visits(&self.bytes).map(Iterator::collect),
             listing: vektrid::listing(&self.bytes),
+            sheet: vektrid::sheet(&self.bytes),
+            pages: vektrid::sheet_pages(&self.bytes)
+                .map(|pages| pages.map(|page| page.to_vec()).collect()),
         }
     }
 
@@ -66,18 +74,22 @@ impl Case for RegionFile {
     }
 
     fn test(&self) -> String {
-        let Answer { judged, link, visits, listing } = self.expected();
+        let Answer { judged, link, visits, listing, sheet, pages } = self.expected();
         format!(
             "let file = {:?};\n\
              assert_eq!(judge(&file), {});\n\
              assert_eq!(judge_link(&file), {});\n\
              assert_eq!(visits(&file).map(Iterator::collect::<Vec<_>>), {});\n\
-             assert_eq!(listing(&file), b\"{}\");",
+             assert_eq!(listing(&file), b\"{}\");\n\
+             assert_eq!(sheet(&file), b\"{}\");\n\
+             assert_eq!(sheet_pages(&file).map(|pages| pages.flatten().collect::<Vec<_>>()), {});",
             self.bytes,
             text::answer(&judged),
             text::link(&link),
             text::visits(&visits),
-            listing.escape_ascii()
+            listing.escape_ascii(),
+            sheet.escape_ascii(),
+            pages.map_or_else(text::refused, |_| "Ok(sheet(&file))".to_string())
         )
     }
 }
@@ -91,4 +103,27 @@ fn stopped(stopped: region_file::Stopped) -> Stopped {
 fn file_visit(visit: reference::region_file::Visit) -> FileVisit {
     let (x, y) = (visit.position.x as i32, visit.position.y as i32);
     FileVisit { record: visit.record, index: visit.index, x, y }
+}
+
+#[cfg(test)]
+mod tests {
+    use super::*;
+
+    #[test]
+    fn pages_are_those_of_the_sheet() {
+        // Record 0 alone, which names no other.
+        let mut bytes = vec![0; 32];
+        bytes[4] = 1;
+        let accepted = RegionFile { bytes };
+        let Answer { sheet, pages, .. } = accepted.expected();
+        assert_eq!(pages, Ok(vec![sheet]));
+        assert!(accepted.test().ends_with(".collect::<Vec<_>>()), Ok(sheet(&file)));"));
+    }
+
+    #[test]
+    fn refused_file_has_its_refusal_for_pages() {
+        let refused = RegionFile { bytes: vec![] };
+        assert_eq!(refused.expected().pages, Err(Refusal::FileLength));
+        assert!(refused.test().ends_with(".collect::<Vec<_>>()), Err(Refusal::FileLength));"));
+    }
 }

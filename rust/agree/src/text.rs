@@ -29,8 +29,13 @@ pub fn let_pair(words: &Words) -> String {
 pub fn answer<T: Debug>(answer: &Result<T, Refusal>) -> String {
     match answer {
         Ok(value) => format!("Ok({value:?})"),
-        Err(refusal) => format!("Err(Refusal::{refusal:?})"),
+        Err(refusal) => refused(*refusal),
     }
+}
+
+/// The answer of a refused call.
+pub fn refused(refusal: Refusal) -> String {
+    format!("Err(Refusal::{refusal:?})")
 }
 
 /// The visits of a file, or their refusal.

@@ -1,19 +1,22 @@
 //! The reference visit planner: check, points, cell queries, fills, walks, unit
-//! numbers, stage positions and the region file with its listing. All of it,
-//! the programs included, is written from documents 01, 003 and 004 alone
-//! (README.md of the repository says what they are) and not from the Rattle
-//! code, so that an agreement of the two says something. Only
-//! `region_file::Stopped` is not in them: it follows docs/REFUSALS.md.
+//! numbers, stage positions and the region file with its listing and its sheet.
+//! All of it, the programs included, is written from documents 01, 02, 003 and
+//! 004 alone (README.md of the repository says what they are; where 02 leaves a
+//! reading open, docs/DECISIONS.md has ours) and not from the Rattle code, so
+//! that an agreement of the two says something. Only `region_file::Stopped` is
+//! not in them: it follows docs/REFUSALS.md.
 
 #![forbid(unsafe_code)]
 
 pub mod check;
 pub mod fill;
+pub mod filter;
 pub mod listing;
 pub mod pair;
 pub mod query;
 pub mod refusal;
 pub mod region_file;
+pub mod sheet;
 pub mod stage;
 pub mod trial;
 pub mod unit;

@@ -6,7 +6,7 @@ use std::iter;
 use crate::refusal::Refusal;
 use crate::region_file::{chain, visits, Visit};
 
-const HEADER: &str = "record visit x y\n";
+pub(crate) const HEADER: &str = "record visit x y\n";
 
 /// What the listing program prints for this file.
 pub fn listing(file: &[u8]) -> Vec<u8> {

@@ -1,10 +1,12 @@
-//! Tries a listing program on many region files, most of them damaged, and
-//! compares what it prints, byte by byte, with the listing.
+//! Tries a listing program and a sheet program on many region files, most of
+//! them damaged, and compares what they print, byte by byte, with the listing
+//! and the sheet. The sheets are read back too.
 //!
-//!     damaged PROGRAM [SEED] [COUNT]
+//!     damaged LIST_VISITS PRINT_SHEET [SEED] [COUNT]
 
 #![forbid(unsafe_code)]
 
+mod both;
 mod program;
 mod report;
 
@@ -12,13 +14,12 @@ use std::process::ExitCode;
 use std::sync::atomic::{AtomicBool, AtomicU64, Ordering};
 use std::{env, fs, io, thread};
 
-use reference::listing::listing;
 use reference::trial::{files, shrink};
 
-use program::answer;
-use report::{difference, Tally};
+use both::{Outcome, Programs};
+use report::Tally;
 
-const USAGE: &str = "usage: damaged PROGRAM [SEED] [COUNT]";
+const USAGE: &str = "usage: damaged LIST_VISITS PRINT_SHEET [SEED] [COUNT]";
 const DEFAULT_SEED: u64 = 20_470;
 const DEFAULT_COUNT: u64 = 20_000;
 const WORKERS: usize = 2;
@@ -30,7 +31,7 @@ const FAILING: &str = "target/damaged.bin";
 /// What the workers share. The numbers are handed out in order and each is
 /// tried to its end, so the smallest failing number is always found.
 struct Trial {
-    program: String,
+    programs: Programs,
     seed: u64,
     count: u64,
     next: AtomicU64,
@@ -56,7 +57,7 @@ fn main() -> ExitCode {
                 failure("not every outcome was seen")
             }
         }
-        Err(problem) => failure(&format!("{}: {problem}", trial.program)),
+        Err(problem) => failure(&problem.to_string()),
     }
 }
 
@@ -67,7 +68,8 @@ fn failure(text: &str) -> ExitCode {
 
 fn from_arguments() -> Result<Trial, String> {
     let mut arguments = env::args().skip(1);
-    let program = arguments.next().ok_or(USAGE)?;
+    let list_visits = arguments.next().ok_or(USAGE)?;
+    let print_sheet = arguments.next().ok_or(USAGE)?;
     let mut number = |default| match arguments.next() {
         Some(text) => text.parse().map_err(|_| format!("{USAGE}; not a number: {text}")),
         None => Ok(default),
@@ -77,7 +79,7 @@ fn from_arguments() -> Result<Trial, String> {
         return Err(USAGE.to_string());
     }
     let (next, stop) = (AtomicU64::new(0), AtomicBool::new(false));
-    Ok(Trial { program, seed, count, next, stop })
+    Ok(Trial { programs: Programs { list_visits, print_sheet }, seed, count, next, stop })
 }
 
 impl Trial {
@@ -106,13 +108,13 @@ impl Trial {
                 break;
             }
             let file = files::make(self.seed, number);
-            let expected = listing(&file);
-            let answer = answer(&self.program, &file, expected.len());
-            if !answer.as_ref().map_or(false, |answer| answer.is(&expected)) {
+            let outcome = self.programs.try_on(&file);
+            if let Ok(Outcome::Same(bytes)) = outcome {
+                tally.add(&file, bytes);
+            } else {
                 self.stop.store(true, Ordering::SeqCst);
-                return answer.map(|_| (tally, Some(number)));
+                return outcome.map(|_| (tally, Some(number)));
             }
-            tally.add(&file, expected.len());
         }
         Ok((tally, None))
     }
@@ -121,19 +123,19 @@ impl Trial {
     fn explain(&self, number: u64) -> io::Result<String> {
         let file = files::make(self.seed, number);
         let length = file.len();
-        let fails = |smaller: &[u8]| {
-            let expected = listing(smaller);
-            answer(&self.program, smaller, expected.len()).map_or(false, |a| !a.is(&expected))
-        };
+        let fails =
+            |smaller: &[u8]| matches!(self.programs.try_on(smaller), Ok(Outcome::Differs(_)));
         let file = shrink::shrunk(file, fails);
         fs::create_dir_all(FOLDER)?;
         fs::write(FAILING, &file)?;
-        let expected = listing(&file);
-        let answer = answer(&self.program, &file, expected.len())?;
+        let text = match self.programs.try_on(&file)? {
+            Outcome::Differs(text) => text,
+            // It differed before, and now it does not.
+            Outcome::Same(_) => "the output is the same".to_string(),
+        };
         Ok(format!(
-            "file {number} of {length} bytes differs; cut to {} bytes: {FAILING}\n{}",
-            file.len(),
-            difference(&expected, &answer)
+            "file {number} of {length} bytes differs; cut to {} bytes: {FAILING}\n{text}",
+            file.len()
         ))
     }
 }

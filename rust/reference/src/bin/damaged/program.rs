@@ -1,4 +1,4 @@
-//! Runs the program under trial on one file and takes its answer.
+//! Runs a program under trial on one file and takes its answer.
 
 use std::io::{self, Read, Write};
 use std::process::{Child, ChildStdin, ChildStdout, Command, ExitStatus, Stdio};
@@ -26,25 +26,41 @@ impl Answer {
     }
 }
 
-/// The answer to a file, whose listing is expected to have this length.
-pub fn answer(program: &str, file: &[u8], expected: usize) -> io::Result<Answer> {
+/// A program that has been started on a file.
+pub struct Running {
+    child: Child,
+    output: Option<Receiver<Vec<u8>>>,
+    most: usize,
+}
+
+/// Starts a program on a file, for which it is expected to print so many bytes.
+pub fn start(program: &str, file: &[u8], expected: usize) -> io::Result<Running> {
     let mut command = Command::new(program);
     command.stdin(Stdio::piped()).stdout(Stdio::piped()).stderr(Stdio::null());
-    let mut child = command.spawn()?;
+    let named =
+        |problem: io::Error| io::Error::new(problem.kind(), format!("{program}: {problem}"));
+    let mut child = command.spawn().map_err(named)?;
     if let Some(stdin) = child.stdin.take() {
         write_apart(stdin, file.to_vec());
     }
     let most = expected + MORE;
-    let received = child.stdout.take().map(|stdout| read_apart(stdout, most));
-    let output = received.and_then(|output| output.recv_timeout(PATIENCE).ok());
-    match output {
-        Some(output) if output.len() < most => {
-            let status = Some(child.wait()?);
-            Ok(Answer { output, status })
-        }
-        unended => {
-            end(&mut child)?;
-            Ok(Answer { output: unended.unwrap_or_default(), status: None })
+    let output = child.stdout.take().map(|stdout| read_apart(stdout, most));
+    Ok(Running { child, output, most })
+}
+
+impl Running {
+    /// Waits for the answer, or ends a program that gives none.
+    pub fn answer(mut self) -> io::Result<Answer> {
+        let output = self.output.and_then(|output| output.recv_timeout(PATIENCE).ok());
+        match output {
+            Some(output) if output.len() < self.most => {
+                let status = Some(self.child.wait()?);
+                Ok(Answer { output, status })
+            }
+            unended => {
+                end(&mut self.child)?;
+                Ok(Answer { output: unended.unwrap_or_default(), status: None })
+            }
         }
     }
 }
@@ -79,6 +95,10 @@ fn end(child: &mut Child) -> io::Result<()> {
 #[cfg(test)]
 mod tests {
     use super::*;
+
+    fn answer(program: &str, file: &[u8], expected: usize) -> io::Result<Answer> {
+        start(program, file, expected)?.answer()
+    }
 
     #[test]
     fn input_comes_back_whole() {

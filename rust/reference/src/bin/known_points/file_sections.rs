@@ -1,9 +1,10 @@
-//! The sections on region files: their answers and some listings.
+//! The sections on region files: their answers, some listings and some sheets.
 
 use std::io::{self, Write};
 
 use reference::listing::listing;
 use reference::region_file::{chain, file_of, Fields};
+use reference::sheet::{sheet, COLUMNS, LINE_BYTES, PAGE_BYTES};
 
 /// The file that the cases change: two records, both in order.
 const BASE: [Fields; 3] = [
@@ -77,7 +78,8 @@ const LISTED: [Case; 4] =
 pub fn all(output: &mut impl Write) -> io::Result<()> {
     files_section(output)?;
     long_section(output)?;
-    list_section(output)
+    list_section(output)?;
+    sheet_section(output)
 }
 
 fn files_section(output: &mut impl Write) -> io::Result<()> {
@@ -129,4 +131,47 @@ fn list_section(output: &mut impl Write) -> io::Result<()> {
         output.write_all(&listing(&changed(case)))?;
     }
     Ok(())
+}
+
+/// Sheets in numbers, with their first visit line and their last line; then
+/// some lines of a sheet of two pages, by their numbers from 1; then a refusal.
+fn sheet_section(output: &mut impl Write) -> io::Result<()> {
+    writeln!(output, "sheet")?;
+    for count in [0, 1, 48, 49] {
+        sheet_line(output, count, &sheet(&one_record(count)))?;
+    }
+    sheet_line(output, 2_047 * 4_096, &sheet(&most_visits()))?;
+    let two_pages = sheet(&one_record(49));
+    for number in [1, 49, 50, 52, 53] {
+        writeln!(output, "{number} {}", quoted(&two_pages, number))?;
+    }
+    output.write_all(&sheet(&changed([96, 32, 1, 32, 1])))
+}
+
+/// The base file's record 1 alone, with this count of visits.
+fn one_record(count: u32) -> Vec<u8> {
+    changed([64, 32, 0, 60, count])
+}
+
+/// The largest file, all records on its chain and full of visits. The first
+/// one lies at the lowest position to the right and the highest downward.
+fn most_visits() -> Vec<u8> {
+    let (left, top) = ((-1_000_000i32) as u32, 1_000_000);
+    let record = |number: u32| [number - 1, left, top, 1, 1_000_000, 0, u32::MAX, 4_096];
+    let mut records = vec![[2_047, 32, 0, 0, 0, 0, 0, 0]];
+    records.extend((1..=2_047).map(record));
+    file_of(&records)
+}
+
+/// Visits, pages, bytes, the second line and the last.
+fn sheet_line(output: &mut impl Write, visits: u32, sheet: &[u8]) -> io::Result<()> {
+    let (bytes, last) = (sheet.len(), sheet.len() / LINE_BYTES);
+    write!(output, "{visits} {} {bytes} ", bytes / PAGE_BYTES)?;
+    writeln!(output, "{} {}", quoted(sheet, 2), quoted(sheet, last))
+}
+
+/// The columns of a line, the first line being 1.
+fn quoted(sheet: &[u8], number: usize) -> String {
+    let line = &sheet[(number - 1) * LINE_BYTES..][..COLUMNS];
+    format!("\"{}\"", line.escape_ascii())
 }
