@@ -1,73 +1,16 @@
 // The listing of a region file with 2,047 records of 4,096 visits: 8,384,512 lines, a piece of 64 KiB at a time, to /dev/null.
 #include <fcntl.h>
-#include <unistd.h>
 
-#include <algorithm>
-#include <cstdlib>
-#include <cstring>
-#include <string>
-#include <vector>
-
-#include "../include/vektrid.h"
-#include "listing_peers.hpp"
-#include "report.hpp"
+#include "texts.hpp"
 
 namespace {
-
-// Ours: the sink gets each piece.
-template <class Sink>
-void our_listing(const File& file, uint8_t* piece, Sink sink) {
-    vektrid_cursor cursor;
-    vektrid_listing_open(file.data(), file.size(), &cursor);
-    while (const size_t n = vektrid_listing_piece(file.data(), file.size(), &cursor, piece, kPiece)) sink(piece, n);
-}
-
-// Holds a stream of bytes against our listing, wherever either of them ends its pieces.
-class Against {
-public:
-    explicit Against(const File& file) : file_(file) { vektrid_listing_open(file.data(), file.size(), &cursor_); }
-    void feed(const uint8_t* bytes, size_t n) {
-        while (n > 0 && equal_) {
-            if (at_ == have_ && !refill()) equal_ = false;
-            const size_t part = std::min(n, have_ - at_);
-            equal_ = equal_ && std::memcmp(bytes, &piece_[at_], part) == 0;
-            bytes += part, n -= part, at_ += part;
-        }
-    }
-    bool ended_equal() { return equal_ && at_ == have_ && !refill(); }
-
-private:
-    bool refill() {
-        have_ = vektrid_listing_piece(file_.data(), file_.size(), &cursor_, piece_.data(), piece_.size());
-        at_ = 0;
-        return have_ > 0;
-    }
-    const File& file_;
-    vektrid_cursor cursor_;
-    std::vector<uint8_t> piece_ = std::vector<uint8_t>(kPiece);
-    size_t at_ = 0, have_ = 0;
-    bool equal_ = true;
-};
 
 template <class Writer>
 void compare_one(Report& report, const File& file, const char* name) {
     std::vector<uint8_t> piece(kPiece);
-    Against ours(file);
-    cpp_listing<Writer>(file, piece.data(), [&](const uint8_t* bytes, size_t n) { ours.feed(bytes, n); });
+    Against<Listing> ours(file);
+    cpp_listing<Writer>(file, piece.data(), [&](const uint8_t* bytes, size_t n) { ours(bytes, n); });
     report.compare(ours.ended_equal(), std::string("listing against C++ ") + name);
-}
-
-// Where the pieces go while time is taken.
-struct Null {
-    int file;
-    void operator()(const uint8_t* bytes, size_t n) const {
-        keep(bytes);
-        if (write(file, bytes, n) != static_cast<ssize_t>(n)) std::abort();
-    }
-};
-
-void add_ours(Race& race, const File& file, std::vector<uint8_t>& piece, Null null) {
-    race.add("ours", [&file, &piece, null] { our_listing(file, piece.data(), null); });
 }
 
 template <class Writer>
@@ -90,8 +33,8 @@ void measure_listings(Report& report) {
     std::vector<uint8_t> piece(kPiece);
     const Null null{open("/dev/null", O_WRONLY)};
     Race race, slow;  // apart, so that the others run more often
-    add_ours(race, file, piece, null);
-    add_ours(slow, file, piece, null);
+    add_ours<Listing>(race, file, piece, null);
+    add_ours<Listing>(slow, file, piece, null);
     add_theirs<ToChars>(race, "to_chars", file, piece, null);
     add_theirs<ToCharsOnce>(race, "to_chars once", file, piece, null);
     add_theirs<Printf>(slow, "printf", file, piece, null);

@@ -40,29 +40,44 @@ inline int32_t position(uint32_t edge, uint32_t extent, uint32_t word) {
     return static_cast<int32_t>(edge) + static_cast<int32_t>((uint64_t{word} * extent) >> 32);
 }
 
-// A listing, points by listing 19: a Writer starts a record and writes a line. The file is taken as good, which is in favour of the peer.
-template <class Writer, class Sink>
-void cpp_listing(const File& file, uint8_t* piece, Sink sink) {
-    char* const begin = reinterpret_cast<char*>(piece);
-    char* const end = begin + kPiece;
-    char* at = begin + kHeader.copy(begin, kHeader.size());
+// The records of a file's chain, each with its number. The file is taken as good, which is in favour of the peers.
+template <class Visit>
+void each_record(const File& file, Visit visit) {
     uint32_t number;
     std::memcpy(&number, file.data(), sizeof number);
     while (number != 0) {
         Record record;
         std::memcpy(&record, &file[32 * number], sizeof record);
+        visit(number, record);
+        number = record.next;
+    }
+}
+
+// The visits of a record, points by listing 19.
+template <class Visit>
+void each_visit(const Record& record, Visit visit) {
+    for (uint32_t i = 0; i < record.count; ++i) {
+        const uint32_t x = reversed(i);
+        visit(i, position(record.left, record.width, x ^ record.shift_x), position(record.top, record.height, pascal(x) ^ record.shift_y));
+    }
+}
+
+// A listing: a Writer starts a record and writes a line.
+template <class Writer, class Sink>
+void cpp_listing(const File& file, uint8_t* piece, Sink sink) {
+    char* const begin = reinterpret_cast<char*>(piece);
+    char* const end = begin + kPiece;
+    char* at = begin + kHeader.copy(begin, kHeader.size());
+    each_record(file, [&](uint32_t number, const Record& record) {
         const Writer writer(number);
-        for (uint32_t i = 0; i < record.count; ++i) {
+        each_visit(record, [&](uint32_t i, int32_t x, int32_t y) {
             if (static_cast<size_t>(end - at) < kLongestLine) {
                 sink(piece, static_cast<size_t>(at - begin));
                 at = begin;
             }
-            const uint32_t x = reversed(i);
-            at = writer.line(at, end, i, position(record.left, record.width, x ^ record.shift_x),
-                             position(record.top, record.height, pascal(x) ^ record.shift_y));
-        }
-        number = record.next;
-    }
+            at = writer.line(at, end, i, x, y);
+        });
+    });
     sink(piece, static_cast<size_t>(at - begin));
 }
 

@@ -42,6 +42,7 @@ void compare(Report& report, const std::string& python) {
     compare_points(report);
     compare_cells(report);
     compare_listings(report);
+    compare_sheets(report);
 }
 
 void measure(Report& report, const std::string& python, const std::string& reason) {
@@ -51,8 +52,9 @@ void measure(Report& report, const std::string& python, const std::string& reaso
     say("measuring points, checks and queries");
     measure_points(report);
     measure_cells(report);
-    say("measuring listings");
+    say("measuring listings and sheets");
     measure_listings(report);
+    measure_sheets(report);
     measure_growth(report);
 }
 

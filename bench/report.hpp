@@ -80,6 +80,8 @@ void compare_cells(Report& report);
 void measure_cells(Report& report);
 void compare_listings(Report& report);
 void measure_listings(Report& report);
+void compare_sheets(Report& report);
+void measure_sheets(Report& report);
 void measure_growth(Report& report);
 // SciPy by `command`, a Python that has it; where that is empty, `reason` says why.
 void compare_scipy(Report& report, const std::string& command);
