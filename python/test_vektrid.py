@@ -928,9 +928,9 @@ class Interface(unittest.TestCase):
 
     @unittest.skipUnless(shutil.which('gcc'), 'gcc is not installed: no library of another interface can be made')
     def test_library_of_another_interface(self):
-        number = vektrid.ABI + 1
-        for code, found in ((f'#include <stdint.h>\nuint32_t vektrid_abi(void) {{ return {number}; }}', f'has interface {number},'),
-                            ('int other(void) { return 1; }', 'has no interface number')):
+        others = [(f'#include <stdint.h>\nuint32_t vektrid_abi(void) {{ return {number}; }}', f'has interface {number},')
+                  for number in (vektrid.ABI - 1, vektrid.ABI + 1)]
+        for code, found in others + [('int other(void) { return 1; }', 'has no interface number')]:
             with tempfile.TemporaryDirectory() as folder:
                 path = os.path.join(folder, 'other.so')
                 subprocess.run(['gcc', '-shared', '-fPIC', '-x', 'c', '-o', path, '-'], input=code, universal_newlines=True, check=True)
