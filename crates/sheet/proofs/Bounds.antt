@@ -20,14 +20,15 @@ use Rattle.net.specs.Sequence.{Fits}
 use Rattle.net.proofs.Columns.{standard-valid}
 use Rattle.net.proofs.Interval.{plain-fits}
 use Rattle.net.proofs.Scrambling.{shift-lawful, scrambled-fits}
-use Rattle.refusal.specs.Outcome.{accepted}
+use Rattle.refusal.specs.Outcome.{accepted, Test}
 use Rattle.plan.specs.declared.points.Shift.{Shift}
 use Rattle.plan.specs.Pair.{sequence, standard-pair}
 use Rattle.stage.specs.Position.{edge-within, offset, position, largest-extent}
 use Rattle.stage.proofs.Limits.{within-has}
+use Rattle.region_file.specs.declared.fields.Record.{Record}
 use Rattle.region_file.specs.Fields.{word-at, record-at, record-count, most-records}
 use Rattle.region_file.specs.Chain.{chain-numbers}
-use Rattle.region_file.specs.Judge.{no-further-tests, judge-outcome}
+use Rattle.region_file.specs.Judge.{judge-outcome}
 use Rattle.visits.specs.Visits.{planned, position-of, file-visit, record-visits, visits-of, file-visits}
 use Rattle.sheet.specs.Theorem.{Near, Narrow}
 use Rattle.sheet.proofs.Count.{few-records, Good, numbers-good}
@@ -66,8 +67,8 @@ sequence-fits s hx hy =
 
 -- ---- visits
 
-module _ (file : List ℕ) (bytes : Below 256 file) (few : record-count file ≤ most-records) where
-  visit-narrow : (n i : ℕ) → Good file n → i < planned file n .count → Narrow (file-visit n (planned file n) i)
+module _ (further : Record → List Test) (file : List ℕ) (bytes : Below 256 file) (few : record-count file ≤ most-records) where
+  visit-narrow : (n i : ℕ) → Good further file n → i < planned file n .count → Narrow (file-visit n (planned file n) i)
   unfolding position-of record-at
   visit-narrow n i g h =
       let r = planned file n in
@@ -82,7 +83,7 @@ module _ (file : List ℕ) (bytes : Below 256 file) (few : record-count file ≤
         y = position-near (r .region .top) (r .region .height) _ (W .top) (W .height) (F .y i);
       }
 
-  records-narrow : (ns : List ℕ) → Each (Good file) ns → Each Narrow (visits-of file ns)
+  records-narrow : (ns : List ℕ) → Each (Good further file) ns → Each Narrow (visits-of file ns)
   unfolding visits-of
   records-narrow [] g = tt
   records-narrow (n ∷ ns) g =
@@ -90,6 +91,8 @@ module _ (file : List ℕ) (bytes : Below 256 file) (few : record-count file ≤
       (each-of-range Narrow (file-visit n (planned file n)) 0 (planned file n .count) (λ i l u. visit-narrow n i (g .0) (omega arith)))
       (records-narrow ns (g .1))
 
-pub visits-narrow : (file : List ℕ) → Below 256 file → judge-outcome no-further-tests file ≡ accepted tt → Each Narrow (file-visits file)
+-- of an accepted file, whatever further tests it passed
+pub visits-narrow : (further : Record → List Test) (file : List ℕ) → Below 256 file → judge-outcome further file ≡ accepted tt
+    → Each Narrow (file-visits file)
 unfolding file-visits
-visits-narrow file bytes e = records-narrow file bytes (few-records file e) (chain-numbers file) (numbers-good file e)
+visits-narrow further file bytes e = records-narrow further file bytes (few-records further file e) (chain-numbers file) (numbers-good further file e)

@@ -7,6 +7,7 @@ use lib.ListN.{length, replicate}
 use Rattle.ranges.specs.Below.{Below}
 use Rattle.ranges.specs.Each.{Each}
 use Rattle.refusal.specs.Outcome.{Outcome, accepted, refused}
+use Rattle.region_file.specs.Judge.{no-further-tests}
 use Rattle.visits.specs.declared.file_walks.FileVisit.{FileVisit}
 use Rattle.visits.specs.Visits.{visits-outcome}
 use Rattle.text.specs.Ascii.{line-feed, blank}
@@ -34,12 +35,12 @@ sheets : (file : List ℕ) (vs : List FileVisit) → Below 256 file → visits-o
 unfolding sheet listing
 sheets file vs bytes e =
     let j = judged file vs e in
-    let narrow : Each Narrow vs = rw (j .1) at (visits-narrow file bytes (j .0)) in
+    let narrow : Each Narrow vs = rw (j .1) at (visits-narrow no-further-tests file bytes (j .0)) in
     record {
       narrow = narrow;
       lines = sheet-each vs narrow;
       fewest-pages = page-count-fewest (length vs);
-      most-pages = rw (j .1) at (accepted-pages file (j .0));
+      most-pages = rw (j .1) at (accepted-pages no-further-tests file (j .0));
       line-count = sheet-long vs;
       byte-count = ap (λ (o : Outcome (List FileVisit)). length (sheet-report o)) e ∙ sheet-bytes vs narrow;
       numbered = sheet-page vs;

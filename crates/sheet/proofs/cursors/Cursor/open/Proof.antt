@@ -9,6 +9,7 @@ use borrow.Author.Needs.{needs}
 use denote.Ref.{now}
 use lib.ListN.{length}
 use Rattle.refusal.specs.Outcome.{accepted}
+use Rattle.region_file.specs.Judge.{no-further-tests}
 use Rattle.visits.specs.declared.file_walks.FileVisit.{FileVisit}
 use Rattle.visits.specs.Visits.{visits-outcome}
 use Rattle.visits.specs.FileWalk.{visits-to-come, of-opened-file}
@@ -39,7 +40,7 @@ ended-requires c κs = search needs
 few : (file : List ℕ) (vs : List FileVisit) → visits-outcome file ≡ accepted vs → page-count (length vs) < 2 ^ 32
 few file vs e =
     let j = judged file vs e in
-    let p : page-count (length vs) ≤ 174678 = rw (j .1) at (accepted-pages file (j .0)) in
+    let p : page-count (length vs) ≤ 174678 = rw (j .1) at (accepted-pages no-further-tests file (j .0)) in
     omega (arith, p)
 
 returns : tie.Need-returns
