@@ -14,8 +14,8 @@ use Rattle.ranges.proofs.Tests.{both-hold}
 use Rattle.refusal.specs.Outcome.{Outcome, accepted, refused, Test, first}
 use Rattle.refusal.proofs.First.{accepted-refused, AllPass, all-pass, refused-before, passed-before}
 use Rattle.stage.specs.Region.{within}
-use Rattle.region_file.specs.declared.fields.Record.{Record}
-use Rattle.region_file.specs.Fields.{record-bytes, most-bytes, record-at, first-record, record-count, most-records}
+use Rattle.region_file.specs.declared.records.Record.{Record}
+use Rattle.region_file.specs.Records.{record-bytes, most-bytes, record-at, first-record, record-count, most-records}
 use Rattle.region_file.specs.Judge.{whole, head-tests, most-visits, link-tests, link-outcome, nowhere, also, chain-outcome, judge-outcome}
 
 -- what a record has that passes its own tests

@@ -11,8 +11,8 @@ use lib.ListN.{length, getD, set, replicate, length-set, length-replicate}
 use lib.Seq.{getD-set-other}
 use Rattle.refusal.specs.Outcome.{Outcome, accepted, refused, Test, first}
 use Rattle.refusal.proofs.First.{refused-before, passed-before}
-use Rattle.region_file.specs.declared.fields.Record.{Record}
-use Rattle.region_file.specs.Fields.{record-at, record-count, most-records}
+use Rattle.region_file.specs.declared.records.Record.{Record}
+use Rattle.region_file.specs.Records.{record-at, record-count, most-records}
 use Rattle.region_file.specs.Judge.{also, link-tests, chain-outcome}
 use Rattle.region_file.specs.Theorem.{ChainsEnd}
 use Rattle.region_file.proofs.Chain.{Passed, passed, whole-few}

@@ -6,7 +6,7 @@ use Prim.Native.Nat.{ℕ, _/_, _%_}
 use lib.ListN.{replicate, take}
 use Rattle.refusal.specs.Outcome.{Outcome, accepted, refused, first, granted}
 use Rattle.stage.specs.Region.{within}
-use Rattle.region_file.specs.Fields.{word-at, record-at, zeros}
+use Rattle.region_file.specs.Records.{word-at, record-at, zeros}
 use Rattle.region_file.specs.Chain.{no-link}
 use Rattle.region_file.specs.Judge.{whole, chain-outcome, judge-outcome, chain-stop, judge-stop, no-further-tests}
 

@@ -10,8 +10,8 @@ use native.Mathlib.Omega.{arith}
 use borrow.Author.Tests.{lt-leb, le-ltb}
 use Rattle.refusal.specs.Outcome.{Outcome, accepted, Test, first}
 use Rattle.refusal.proofs.First.{first-none, first-passes, AllPass, all-pass}
-use Rattle.region_file.specs.declared.fields.Record.{Record}
-use Rattle.region_file.specs.Fields.{record-at, first-record, most-records}
+use Rattle.region_file.specs.declared.records.Record.{Record}
+use Rattle.region_file.specs.Records.{record-at, first-record, most-records}
 use Rattle.region_file.specs.Chain.{numbers, member}
 use Rattle.region_file.specs.Judge.{head-tests, no-further-tests, further-outcome, link-outcome, nowhere, also, chain-outcome, judge-outcome}
 use Rattle.region_file.specs.Theorem.{FurtherTests}

@@ -10,7 +10,7 @@ use borrow.Author.Tests.{eqb-true, eqb-false, not-false}
 use lib.Dec.{eqb}
 use lib.ListN.{length, getD, set, replicate}
 use lib.Seq.{getD-set-same, getD-set-other}
-use Rattle.region_file.specs.Fields.{most-records}
+use Rattle.region_file.specs.Records.{most-records}
 use Rattle.region_file.specs.Judge.{nowhere, also}
 
 -- record k is marked

@@ -12,8 +12,8 @@ use borrow.Author.Tests.{eq-eqb, ne-eqb}
 use lib.Dec.{eqb}
 use Rattle.ranges.proofs.Order.{eq-or-ne}
 use Rattle.refusal.specs.Outcome.{accepted, Test}
-use Rattle.region_file.specs.declared.fields.Record.{Record}
-use Rattle.region_file.specs.Fields.{record-at, first-record, most-records}
+use Rattle.region_file.specs.declared.records.Record.{Record}
+use Rattle.region_file.specs.Records.{record-at, first-record, most-records}
 use Rattle.region_file.specs.Chain.{numbers, member}
 use Rattle.region_file.specs.Judge.{nowhere, also, chain-outcome}
 use Rattle.region_file.specs.Theorem.{WholeChain}

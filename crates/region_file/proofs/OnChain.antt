@@ -7,8 +7,8 @@ use Prim.Native.Nat.{ℕ, zero, suc, _/_}
 use borrow.Author.Tests.{eqb-false}
 use lib.Dec.{eqb}
 use Rattle.refusal.specs.Outcome.{accepted, Test, first}
-use Rattle.region_file.specs.declared.fields.Record.{Record}
-use Rattle.region_file.specs.Fields.{record-bytes, record-at, first-record, record-count, most-records}
+use Rattle.region_file.specs.declared.records.Record.{Record}
+use Rattle.region_file.specs.Records.{record-bytes, record-at, first-record, record-count, most-records}
 use Rattle.region_file.specs.Judge.{also, link-tests, head-tests, nowhere, chain-outcome, judge-outcome}
 use Rattle.region_file.specs.Theorem.{SameOnChain, OnlyTheChain}
 

@@ -9,8 +9,8 @@ use borrow.Author.Tests.{eq-eqb, ne-eqb}
 use Rattle.refusal.specs.Outcome.{accepted, refused, Test}
 use Rattle.refusal.proofs.First.{granted-accepted, granted-refused, refused-before, passed-before}
 use Rattle.region_file.specs.declared.chains.Link.{Link}
-use Rattle.region_file.specs.declared.fields.Record.{Record}
-use Rattle.region_file.specs.Fields.{first-record, most-records}
+use Rattle.region_file.specs.declared.records.Record.{Record}
+use Rattle.region_file.specs.Records.{first-record, most-records}
 use Rattle.region_file.specs.Chain.{first-link, link-in, no-link}
 use Rattle.region_file.specs.Judge.{head-tests, head-outcome, link-outcome, nowhere, also, chain-outcome, judge-outcome, chain-stop, judge-stop}
 

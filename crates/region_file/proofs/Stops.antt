@@ -14,8 +14,8 @@ use lib.Seq.{getD-set-other}
 use Rattle.ranges.proofs.Order.{eq-or-ne}
 use Rattle.refusal.specs.Outcome.{Outcome, accepted, refused, Test}
 use Rattle.refusal.proofs.First.{accepted-refused, AllPass, all-pass}
-use Rattle.region_file.specs.declared.fields.Record.{Record}
-use Rattle.region_file.specs.Fields.{record-count, most-records}
+use Rattle.region_file.specs.declared.records.Record.{Record}
+use Rattle.region_file.specs.Records.{record-count, most-records}
 use Rattle.region_file.specs.Chain.{link-at}
 use Rattle.region_file.specs.Judge.{head-tests, head-outcome, link-outcome, also, chain-outcome, chain-stop}
 use Rattle.region_file.specs.Theorem.{named-before, outcome-at, StopsAt, Stops}

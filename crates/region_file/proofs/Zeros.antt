@@ -8,7 +8,7 @@ use native.Mathlib.Nat.{lt-irrefl}
 use native.Mathlib.Omega.{arith}
 use borrow.Author.Tests.{eq-eqb, ne-eqb}
 use lib.ListN.{getD}
-use Rattle.region_file.specs.Fields.{zeros}
+use Rattle.region_file.specs.Records.{zeros}
 
 pub zeros-none : (file : List ℕ) (at n : ℕ) → n ≤ 0 → zeros file at n ≡ true
 unfolding zeros

@@ -4,7 +4,7 @@ use mathlib.Core.List.{List, [], _∷_}
 use Prim.Native.Nat.{ℕ, zero, suc}
 use lib.Dec.{eqb}
 use Rattle.region_file.specs.declared.chains.Link.{Link}
-use Rattle.region_file.specs.Fields.{record-at, first-record, most-records}
+use Rattle.region_file.specs.Records.{record-at, first-record, most-records}
 
 -- the numbers of the chain that begins with n: the first `links` of them, or all where it ends before
 unfoldable pub numbers : List ℕ → ℕ → ℕ → List ℕ

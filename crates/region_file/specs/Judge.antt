@@ -7,9 +7,9 @@ use lib.ListN.{length}
 use Rattle.refusal.specs.Outcome.{Outcome, accepted, refused, Test, first, granted}
 use Rattle.plan.specs.Pair.{unknown-level}
 use Rattle.stage.specs.Region.{outside}
-use Rattle.region_file.specs.declared.fields.Record.{Record}
+use Rattle.region_file.specs.declared.records.Record.{Record}
 use Rattle.region_file.specs.declared.chains.Link.{Link}
-use Rattle.region_file.specs.Fields.{record-bytes, record-at, first-record, file-level, reserved-zero, record-count, most-bytes, most-records}
+use Rattle.region_file.specs.Records.{record-bytes, record-at, first-record, file-level, reserved-zero, record-count, most-bytes, most-records}
 use Rattle.region_file.specs.Chain.{first-link, link-in, no-link}
 
 -- not empty, not longer than the longest file, and whole records

@@ -1,4 +1,4 @@
-pub mod Fields
+pub mod Records
 pub mod Chain
 pub mod Judge
 pub mod Theorem

@@ -9,8 +9,8 @@ use Prim.Native.Nat.{ℕ, zero, suc, _≤_, _<_}
 use lib.Dec.{eqb}
 use lib.ListN.{length}
 use Rattle.refusal.specs.Outcome.{Outcome, accepted, refused, Test}
-use Rattle.region_file.specs.declared.fields.Record.{Record}
-use Rattle.region_file.specs.Fields.{record-at, first-record, file-level, reserved-zero, most-records}
+use Rattle.region_file.specs.declared.records.Record.{Record}
+use Rattle.region_file.specs.Records.{record-at, first-record, file-level, reserved-zero, most-records}
 use Rattle.region_file.specs.Chain.{numbers, chain-numbers, on-chain, no-link, link-at}
 use Rattle.region_file.specs.Judge.{
   whole,

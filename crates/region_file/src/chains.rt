@@ -1,9 +1,9 @@
 // The chain: each link names a record, which is judged whole before the next link is read.
-use crate::fields::MOST_RECORDS;
-use crate::fields::Record;
-use crate::fields::first_record;
-use crate::fields::record_at;
-use crate::fields::record_count;
+use crate::records::MOST_RECORDS;
+use crate::records::Record;
+use crate::records::first_record;
+use crate::records::record_at;
+use crate::records::record_count;
 use refusal::Judgement;
 use refusal::Refusal;
 ghost use mathlib.Core.Path.{_≡_};
@@ -12,7 +12,7 @@ ghost use Prim.Native.Nat.{_≤_};
 ghost use lib.Dec.{eqb};
 ghost use lib.ListN.{getD};
 ghost use Rattle.refusal.specs.Refusal.{of-judgement};
-ghost use Rattle.region_file.specs.Fields.{first-record, record-count, most-records};
+ghost use Rattle.region_file.specs.Records.{first-record, record-count, most-records};
 ghost use Rattle.region_file.specs.Chain.{on-chain, first-link};
 ghost use Rattle.region_file.specs.Judge.{no-further-tests, record-outcome, link-outcome, chain-outcome, nowhere, chain-stop};
 

@@ -2,8 +2,8 @@
 use crate::chains::Judged;
 use crate::chains::Link;
 use crate::chains::judge_chain;
-use crate::fields::RECORD_BYTES;
-use crate::fields::field;
+use crate::records::RECORD_BYTES;
+use crate::records::record_word;
 use plan::Plan;
 use refusal::Judgement;
 use refusal::Refusal;
@@ -11,14 +11,14 @@ ghost use mathlib.Core.Path.{_≡_};
 ghost use Prim.Native.Nat.{_+_, _≤_};
 ghost use lib.ListN.{length};
 ghost use Rattle.refusal.specs.Refusal.{of-judgement, of-refusal};
-ghost use Rattle.region_file.specs.Fields.{zeros};
+ghost use Rattle.region_file.specs.Records.{zeros};
 ghost use Rattle.region_file.specs.Chain.{no-link};
 ghost use Rattle.region_file.specs.Judge.{whole, no-further-tests, judge-outcome, judge-stop};
 
 // The bytes of the longest file.
 const MOST_BYTES: usize = 65536;
 
-// The first reserved byte of record 0. The two fields of record 0 stand before it.
+// The first reserved byte of record 0. The two words of record 0 stand before it.
 const RESERVED_START: usize = 8;
 
 // The number of reserved bytes.
@@ -77,7 +77,7 @@ pub fn judge_link(file: &[u8]) -> Judged
     if !is_whole(file.len()) {
         return refused_head(Refusal::FileLength);
     }
-    if Plan::unknown_level(field(file, 0, 1)) {
+    if Plan::unknown_level(record_word(file, 0, 1)) {
         return refused_head(Refusal::Level);
     }
     if !zeros(file, RESERVED_START, RESERVED_BYTES) {

@@ -25,8 +25,8 @@ use Rattle.plan.specs.declared.points.Shift.{Shift}
 use Rattle.plan.specs.Pair.{sequence, standard-pair}
 use Rattle.stage.specs.Position.{edge-within, offset, position, largest-extent}
 use Rattle.stage.proofs.Limits.{within-has}
-use Rattle.region_file.specs.declared.fields.Record.{Record}
-use Rattle.region_file.specs.Fields.{word-at, record-at, record-count, most-records}
+use Rattle.region_file.specs.declared.records.Record.{Record}
+use Rattle.region_file.specs.Records.{word-at, record-at, record-count, most-records}
 use Rattle.region_file.specs.Chain.{chain-numbers}
 use Rattle.region_file.specs.Judge.{judge-outcome}
 use Rattle.visits.specs.Visits.{planned, position-of, file-visit, record-visits, visits-of, file-visits}

@@ -13,8 +13,8 @@ use Rattle.ranges.specs.Each.{Each}
 use Rattle.ranges.proofs.Range.{length-each}
 use Rattle.refusal.specs.Outcome.{Outcome, accepted, refused, then, Test}
 use Rattle.refusal.proofs.First.{accepted-refused, all-pass, then-same}
-use Rattle.region_file.specs.declared.fields.Record.{Record}
-use Rattle.region_file.specs.Fields.{record-at, first-record, record-count, most-records}
+use Rattle.region_file.specs.declared.records.Record.{Record}
+use Rattle.region_file.specs.Records.{record-at, first-record, record-count, most-records}
 use Rattle.region_file.specs.Chain.{numbers, chain-numbers}
 use Rattle.region_file.specs.Judge.{head-tests, most-visits, no-further-tests, nowhere, also, chain-outcome, judge-outcome}
 use Rattle.region_file.proofs.Marks.{marked, free, free-fresh, fresh-at, marked-fresh, free-set, free-some, marked-set, unmarked}

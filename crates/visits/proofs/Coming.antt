@@ -15,8 +15,8 @@ use Rattle.refusal.specs.Outcome.{accepted, refused, Test}
 use Rattle.refusal.proofs.First.{first-none, first-passes, first-accepted, accepted-refused, accepted-same}
 use Rattle.stage.specs.declared.regions.Position.{Position}
 use Rattle.stage.specs.Region.{within}
-use Rattle.region_file.specs.declared.fields.Record.{Record}
-use Rattle.region_file.specs.Fields.{record-count, most-records}
+use Rattle.region_file.specs.declared.records.Record.{Record}
+use Rattle.region_file.specs.Records.{record-count, most-records}
 use Rattle.region_file.specs.Chain.{numbers}
 use Rattle.region_file.specs.Judge.{chain-outcome}
 use Rattle.region_file.proofs.Chain.{Linked, linked, chain-some}

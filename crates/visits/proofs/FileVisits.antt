@@ -14,8 +14,8 @@ use Rattle.ranges.proofs.Tests.{both-hold}
 use Rattle.refusal.specs.Outcome.{accepted, Test}
 use Rattle.refusal.proofs.First.{first-none, first-passes}
 use Rattle.stage.specs.declared.regions.Position.{Position}
-use Rattle.region_file.specs.declared.fields.Record.{Record}
-use Rattle.region_file.specs.Fields.{record-at, first-record, most-records}
+use Rattle.region_file.specs.declared.records.Record.{Record}
+use Rattle.region_file.specs.Records.{record-at, first-record, most-records}
 use Rattle.region_file.specs.Chain.{numbers, member, on-chain}
 use Rattle.region_file.specs.Judge.{nowhere, also, chain-outcome, judge-outcome}
 use Rattle.region_file.proofs.Chain.{Linked, linked, chain-some, judged-chain}

@@ -8,7 +8,7 @@ use lib.IntN.{pos}
 use Rattle.refusal.specs.Outcome.{Outcome, accepted}
 use Rattle.refusal.specs.Refusal.{of-refusal}
 use Rattle.stage.specs.Region.{within}
-use Rattle.region_file.specs.Fields.{record-count, most-records}
+use Rattle.region_file.specs.Records.{record-count, most-records}
 use Rattle.visits.specs.declared.file_walks.FileVisit.{FileVisit}
 use Rattle.visits.specs.declared.file_walks.FileWalk.{FileWalk}
 use Rattle.visits.specs.declared.file_walks.FileStep.{FileStep}

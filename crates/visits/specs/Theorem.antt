@@ -7,8 +7,8 @@ use Prim.Native.Nat.{ℕ, zero, suc, _≤_, _<_}
 use lib.Dec.{eqb, ltb}
 use lib.ListN.{length}
 use Rattle.refusal.specs.Outcome.{accepted, Test}
-use Rattle.region_file.specs.declared.fields.Record.{Record}
-use Rattle.region_file.specs.Fields.{most-records}
+use Rattle.region_file.specs.declared.records.Record.{Record}
+use Rattle.region_file.specs.Records.{most-records}
 use Rattle.region_file.specs.Chain.{on-chain}
 use Rattle.region_file.specs.Judge.{judge-outcome}
 use Rattle.visits.specs.declared.file_walks.FileVisit.{FileVisit}

@@ -7,8 +7,8 @@ use Rattle.refusal.specs.Outcome.{Outcome, accepted, first, then}
 use Rattle.plan.specs.Pair.{sequence, standard-pair}
 use Rattle.stage.specs.declared.regions.Position.{Position}
 use Rattle.stage.specs.Region.{outside, position-in}
-use Rattle.region_file.specs.declared.fields.Record.{Record}
-use Rattle.region_file.specs.Fields.{record-at}
+use Rattle.region_file.specs.declared.records.Record.{Record}
+use Rattle.region_file.specs.Records.{record-at}
 use Rattle.region_file.specs.Chain.{chain-numbers}
 use Rattle.region_file.specs.Judge.{no-further-tests, judge-outcome}
 use Rattle.visits.specs.declared.file_walks.FileVisit.{FileVisit}

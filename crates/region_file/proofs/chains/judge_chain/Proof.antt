@@ -13,8 +13,8 @@ use lib.Seq.{getD-set-other}
 use Rattle.refusal.specs.Outcome.{accepted}
 use Rattle.refusal.specs.Refusal.{of-judgement}
 use Rattle.region_file.specs.declared.chains.Link.{Link}
-use Rattle.region_file.specs.declared.fields.Record.{Record}
-use Rattle.region_file.specs.Fields.{first-record, record-count, most-records}
+use Rattle.region_file.specs.declared.records.Record.{Record}
+use Rattle.region_file.specs.Records.{first-record, record-count, most-records}
 use Rattle.region_file.specs.Chain.{first-link}
 use Rattle.region_file.specs.Judge.{no-further-tests, link-outcome, nowhere, chain-outcome, chain-stop}
 use Rattle.region_file.proofs.Marks.{marked, free, free-fresh, fresh-at, marked-fresh, free-set, free-some, marked-set, unmarked}

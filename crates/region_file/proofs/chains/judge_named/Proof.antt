@@ -8,7 +8,7 @@ use borrow.Author.Tests.{le-leb, lt-leb}
 use denote.Ref.{now}
 use lib.Dec.{leb}
 use Rattle.refusal.proofs.First.{first-refuses, first-passes}
-use Rattle.region_file.specs.Fields.{record-count}
+use Rattle.region_file.specs.Records.{record-count}
 use Rattle.region_file.specs.Judge.{no-further-tests, record-outcome}
 use Rattle.region_file.proofs.chains.judge_named.Statement.{statement}
 use Rattle.region_file.proofs.chains.judge_named.Tie as tie

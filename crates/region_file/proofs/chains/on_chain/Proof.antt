@@ -4,8 +4,8 @@ use mathlib.Core.Path.{_≡_, sym, ap, _∙_}
 use Prim.Native.Nat.{ℕ, _-_, _^_, _≤_, _<_}
 use borrow.Author.Needs.{needs}
 use denote.Ref.{now}
-use Rattle.region_file.specs.declared.fields.Record.{Record}
-use Rattle.region_file.specs.Fields.{most-records}
+use Rattle.region_file.specs.declared.records.Record.{Record}
+use Rattle.region_file.specs.Records.{most-records}
 use Rattle.region_file.specs.Chain.{numbers, member, on-chain}
 use Rattle.region_file.proofs.Numbers.{member-none, member-end, member-here, member-next}
 use Rattle.region_file.proofs.chains.on_chain.Statement.{statement}

@@ -11,7 +11,7 @@ use lib.ListN.{length}
 use Rattle.refusal.specs.Outcome.{accepted, refused}
 use Rattle.refusal.proofs.First.{first-none, first-refuses, first-passes}
 use Rattle.plan.specs.Pair.{unknown-level}
-use Rattle.region_file.specs.Fields.{file-level}
+use Rattle.region_file.specs.Records.{file-level}
 use Rattle.region_file.specs.Judge.{no-further-tests, head-outcome}
 use Rattle.region_file.specs.Judge.{whole as is-whole}
 use Rattle.region_file.proofs.Chain.{Whole, whole-has, whole-few}
@@ -32,8 +32,8 @@ returns c =
     let h = head-refused no-further-tests (now (a .file)) (first-refuses _ 11 _ e) in
     (c .refused-head .ensures .0 ∙ sym (h .0), c .refused-head .ensures .1 ∙ sym (h .1))
 
-field-requires : tie.Need-field-requires
-field-requires c κs = search needs
+record-word-requires : tie.Need-record-word-requires
+record-word-requires c κs = search needs
 
 unknown-level-requires : tie.Need-unknown-level-requires
 unknown-level-requires c κs = search needs
@@ -49,7 +49,7 @@ whole-passes c = ap not (is-whole-file c)
 
 level-test : (c : tie.After-unknown-level) → unknown-level (file-level (now (c .before .before .before .before .before .args .file)))
     .holds ≡ c .unknown-level .result
-level-test c = sym (c .unknown-level .ensures ∙ ap (λ (k : ℕ). unknown-level k .holds) (c .before .field .ensures))
+level-test c = sym (c .unknown-level .ensures ∙ ap (λ (k : ℕ). unknown-level k .holds) (c .before .record-word .ensures))
 
 refused-head-requires-2 : tie.Need-refused-head-requires-2
 refused-head-requires-2 c κs = search needs
@@ -93,7 +93,7 @@ judge-link-spec =
     is-whole-requires
     refused-head-requires
     returns
-    field-requires
+    record-word-requires
     unknown-level-requires
     refused-head-requires-2
     returns-2

@@ -6,7 +6,7 @@ use native.Mathlib.Omega.{arith}
 use borrow.Author.Needs.{needs}
 use denote.Ref.{now}
 use lib.ListN.{length}
-use Rattle.region_file.specs.Fields.{zeros}
+use Rattle.region_file.specs.Records.{zeros}
 use Rattle.region_file.proofs.Zeros.{zeros-none, zeros-more, zeros-not}
 use Rattle.region_file.proofs.judging.zeros.Statement.{statement}
 use Rattle.region_file.proofs.judging.zeros.Tie as tie

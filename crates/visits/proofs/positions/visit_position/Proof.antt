@@ -2,7 +2,7 @@
 -- Assumes nothing.
 use mathlib.Core.Path.{ap, _∙_}
 use borrow.Author.Needs.{needs}
-use Rattle.region_file.specs.declared.fields.Record.{Record}
+use Rattle.region_file.specs.declared.records.Record.{Record}
 use Rattle.visits.specs.Visits.{visit-position-outcome}
 use Rattle.visits.proofs.positions.visit_position.Statement.{statement}
 use Rattle.visits.proofs.positions.visit_position.Tie as tie

@@ -9,8 +9,8 @@ use native.Mathlib.Omega.{arith}
 use borrow.Author.Needs.{needs}
 use borrow.Author.Tests.{not-true, not-false}
 use denote.Ref.{now}
-use Rattle.region_file.specs.declared.fields.Record.{Record}
-use Rattle.region_file.specs.Fields.{most-records}
+use Rattle.region_file.specs.declared.records.Record.{Record}
+use Rattle.region_file.specs.Records.{most-records}
 use Rattle.visits.specs.declared.file_walks.FileWalk.{FileWalk}
 use Rattle.visits.specs.FileWalk.{visits-from, links-counted, visits-to-come, ended-walk}
 use Rattle.visits.specs.Stepping.{AtNextVisit}

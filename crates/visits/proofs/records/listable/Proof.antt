@@ -5,7 +5,7 @@ use Prim.Native.Nat.{ℕ, _≤_, _<_}
 use borrow.Author.Needs.{needs}
 use denote.Ref.{now}
 use Rattle.stage.specs.Region.{within}
-use Rattle.region_file.specs.declared.fields.Record.{Record}
+use Rattle.region_file.specs.declared.records.Record.{Record}
 use Rattle.visits.proofs.Coming.{listable-zero, listable-past, listable-region}
 use Rattle.visits.proofs.records.listable.Statement.{statement}
 use Rattle.visits.proofs.records.listable.Tie as tie

@@ -6,7 +6,7 @@ use denote.Ref.{now}
 use Rattle.refusal.specs.Outcome.{accepted}
 use Rattle.refusal.specs.Refusal.{of-judgement}
 use Rattle.refusal.proofs.First.{then-accepted, then-refused}
-use Rattle.region_file.specs.Fields.{first-record, most-records}
+use Rattle.region_file.specs.Records.{first-record, most-records}
 use Rattle.region_file.specs.Judge.{nowhere, no-further-tests}
 use Rattle.region_file.proofs.Chain.{judged-chain}
 use Rattle.visits.specs.Visits.{file-visits}

@@ -1,12 +1,12 @@
--- `fields::byte_at`: past the end of the file an element reads as 0.
+-- `records::byte_at`: past the end of the file an element reads as 0.
 -- Assumes nothing.
 use mathlib.Core.Path.{sym}
 use borrow.Author.Needs.{needs}
 use denote.Ref.{now}
 use lib.Dec.{lit<}
 use lib.ListN.{List·getD-eq-default}
-use Rattle.region_file.proofs.fields.byte_at.Statement.{statement}
-use Rattle.region_file.proofs.fields.byte_at.Tie as tie
+use Rattle.region_file.proofs.records.byte_at.Statement.{statement}
+use Rattle.region_file.proofs.records.byte_at.Tie as tie
 
 shared-slice-read-wide : tie.Need-shared-slice-read-wide
 shared-slice-read-wide c = search needs

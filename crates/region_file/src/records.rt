@@ -1,17 +1,17 @@
-// The fields of a file. Bytes past its end count as 0, so every number names a record.
+// The records of a file, word by word. Bytes past its end count as 0, so every number names a record.
 use plan::Shift;
 use signed::cast_signed;
 use stage::Region;
 ghost use mathlib.Core.Path.{_≡_};
 ghost use Prim.Native.Nat.{_<_};
 ghost use lib.ListN.{getD};
-ghost use Rattle.region_file.specs.Fields.{field, record-at, first-record, record-count};
+ghost use Rattle.region_file.specs.Records.{record-word, record-at, first-record, record-count};
 
 // The bytes of a record.
 pub(crate) const RECORD_BYTES: usize = 32;
 
-// The bytes of a field. A record has eight.
-const FIELD_BYTES: usize = 4;
+// The bytes of a word. A record has eight.
+const WORD_BYTES: usize = 4;
 
 // The records of the longest file, record 0 included.
 pub const MOST_RECORDS: u32 = 2048;
@@ -41,28 +41,28 @@ fn byte_at(file: &[u8], at: usize) -> u32
     0
 }
 
-// Field k of record n: four bytes, the lowest first, so each weighs 256 times the one before it.
-pub(crate) fn field(file: &[u8], n: u32, k: u32) -> u32
-    ensures { λ r. ⌜ r ≡ field (now (file .entry)) n k ⌝ }
+// Word k of record n: four bytes, the lowest first, so each weighs 256 times the one before it.
+pub(crate) fn record_word(file: &[u8], n: u32, k: u32) -> u32
+    ensures { λ r. ⌜ r ≡ record-word (now (file .entry)) n k ⌝ }
 {
-    let at = n as usize * RECORD_BYTES + k as usize * FIELD_BYTES;
+    let at = n as usize * RECORD_BYTES + k as usize * WORD_BYTES;
     byte_at(file, at)
         + byte_at(file, at + 1) * 256
         + byte_at(file, at + 2) * 65536
         + byte_at(file, at + 3) * 16777216
 }
 
-// The region of record n, its fields 1 to 4.
+// The region of record n, its words 1 to 4.
 fn region_at(file: &[u8], n: u32) -> Region
     ensures { λ r. ⌜ r ≡ record-at (now (file .entry)) n .region ⌝ }
 {
-    let left = field(file, n, 1);
-    let top = field(file, n, 2);
+    let left = record_word(file, n, 1);
+    let top = record_word(file, n, 2);
     Region {
         left: cast_signed(left),
         top: cast_signed(top),
-        width: field(file, n, 3),
-        height: field(file, n, 4),
+        width: record_word(file, n, 3),
+        height: record_word(file, n, 4),
     }
 }
 
@@ -71,13 +71,13 @@ pub fn record_at(file: &[u8], n: u32) -> Record
     ensures { λ r. ⌜ r ≡ record-at (now (file .entry)) n ⌝ }
 {
     Record {
-        next: field(file, n, 0),
+        next: record_word(file, n, 0),
         region: region_at(file, n),
         shift: Shift {
-            x: field(file, n, 5),
-            y: field(file, n, 6),
+            x: record_word(file, n, 5),
+            y: record_word(file, n, 6),
         },
-        count: field(file, n, 7),
+        count: record_word(file, n, 7),
     }
 }
 
@@ -85,7 +85,7 @@ pub fn record_at(file: &[u8], n: u32) -> Record
 pub fn first_record(file: &[u8]) -> u32
     ensures { λ r. ⌜ r ≡ first-record (now (file .entry)) ⌝ }
 {
-    field(file, 0, 0)
+    record_word(file, 0, 0)
 }
 
 // The number of whole records that the bytes hold, record 0 included.

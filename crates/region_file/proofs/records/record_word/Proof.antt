@@ -1,9 +1,9 @@
--- `fields::field`: no sum wraps, since each byte is below 256.
+-- `records::record_word`: no sum wraps, since each byte is below 256.
 -- Assumes nothing.
 use borrow.Author.Needs.{needs}
-use Rattle.region_file.specs.Fields.{word-at}
-use Rattle.region_file.proofs.fields.field.Statement.{statement}
-use Rattle.region_file.proofs.fields.field.Tie as tie
+use Rattle.region_file.specs.Records.{word-at}
+use Rattle.region_file.proofs.records.record_word.Statement.{statement}
+use Rattle.region_file.proofs.records.record_word.Tie as tie
 
 mul-at : tie.Need-mul-at
 mul-at c = search needs
@@ -57,8 +57,8 @@ returns : tie.Need-returns
 unfolding word-at
 returns c = search needs
 
-pub field-spec : {M : Type 1} → statement M
-field-spec =
+pub record-word-spec : {M : Type 1} → statement M
+record-word-spec =
     tie.close
     (tie.spec
     mul-at

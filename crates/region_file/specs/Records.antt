@@ -1,17 +1,17 @@
--- The fields of a region file: records of 32 bytes, each of eight little-endian words. Bytes past the end count as 0.
+-- The records of a region file: 32 bytes each, eight little-endian words. Bytes past the end count as 0.
 use mathlib.Core.Bool.{Bool, true, _&&_}
 use mathlib.Core.List.{List}
 use Prim.Native.Nat.{ℕ, zero, suc, _+_, _*_, _/_, _^_}
 use lib.Dec.{eqb}
 use lib.ListN.{length, getD}
 use Rattle.signed.specs.Words.{cast-signed}
-use Rattle.region_file.specs.declared.fields.Record.{Record}
+use Rattle.region_file.specs.declared.records.Record.{Record}
 
--- the bytes of a field
-abbrev pub field-bytes : ℕ
-field-bytes = 4
+-- the bytes of a word
+abbrev pub word-bytes : ℕ
+word-bytes = 4
 
--- the bytes of a record, which has eight fields
+-- the bytes of a record, which has eight words
 abbrev pub record-bytes : ℕ
 record-bytes = 32
 
@@ -19,34 +19,39 @@ record-bytes = 32
 unfoldable pub word-at : List ℕ → ℕ → ℕ
 word-at file at = getD file at 0 + getD file (at + 1) 0 * 2 ^ 8 + getD file (at + 2) 0 * 2 ^ 16 + getD file (at + 3) 0 * 2 ^ 24
 
--- field k of record n
-abbrev pub field : List ℕ → ℕ → ℕ → ℕ
-field file n k = word-at file (n * record-bytes + k * field-bytes)
+-- word k of record n
+abbrev pub record-word : List ℕ → ℕ → ℕ → ℕ
+record-word file n k = word-at file (n * record-bytes + k * word-bytes)
 
 -- record n of a chain: next, left, top, width, height, the two words of the digital shift (01: scramble), count.
 -- Left and top are in two's complement.
 unfoldable pub record-at : List ℕ → ℕ → Record
 record-at file n = record {
-  next = field file n 0;
-  region = record { left = cast-signed (field file n 1); top = cast-signed (field file n 2); width = field file n 3; height = field file n 4 };
-  shift = record { x = field file n 5; y = field file n 6 };
-  count = field file n 7;
+  next = record-word file n 0;
+  region = record {
+    left = cast-signed (record-word file n 1);
+    top = cast-signed (record-word file n 2);
+    width = record-word file n 3;
+    height = record-word file n 4;
+  };
+  shift = record { x = record-word file n 5; y = record-word file n 6 };
+  count = record-word file n 7;
 }
 
--- the number of the chain's first record, the first field of record 0
+-- the number of the chain's first record, the first word of record 0
 abbrev pub first-record : List ℕ → ℕ
-first-record file = field file 0 0
+first-record file = record-word file 0 0
 
--- the level, the second field of record 0
+-- the level, the second word of record 0
 abbrev pub file-level : List ℕ → ℕ
-file-level file = field file 0 1
+file-level file = record-word file 0 1
 
 -- n bytes are zero, the first of which is byte `at`
 unfoldable pub zeros : List ℕ → ℕ → ℕ → Bool
 zeros file at zero = true
 zeros file at (suc n) = eqb (getD file at 0) 0 && zeros file (at + 1) n
 
--- the first of the reserved bytes of record 0, which stand behind its two fields
+-- the first of the reserved bytes of record 0, which stand behind its two words
 abbrev pub reserved-start : ℕ
 reserved-start = 8
 
