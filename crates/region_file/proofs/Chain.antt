@@ -1,87 +1,96 @@
--- The laws of `chain` and `whole`, one for each case of the code, and what an accepted link, chain or file has. They hold for every list of
--- further tests.
+-- The laws of `chain-outcome` and `whole`, one for each case of the code, and what an accepted link, chain or file has. They hold for every
+-- list of tests of a record.
 -- Assumes nothing.
 use mathlib.Core.Path.{_≡_, refl, sym}
-use mathlib.Core.Bool.{Bool, true, false, cond, not}
+use mathlib.Core.Bool.{Bool, true, false, cond}
 use mathlib.Core.List.{List}
 use mathlib.Core.Logic.{_⊎_, inl, inr}
 use Prim.Native.Nat.{ℕ, zero, suc, _%_, _/_, _≤_, _<_}
 use native.Mathlib.Nat.{lt-irrefl}
 use native.Mathlib.Omega.{arith}
 use borrow.Author.Tests.{eq-eqb, ne-eqb, eqb-true, eqb-false, leb-false, ltb-false, not-true, not-false}
-use lib.Dec.{eqb, leb, ltb}
+use lib.Dec.{eqb}
 use Rattle.ranges.proofs.Tests.{both-hold}
 use Rattle.refusal.specs.Outcome.{Outcome, accepted, refused, Test, first}
 use Rattle.refusal.proofs.First.{accepted-refused, AllPass, all-pass, refused-before, passed-before}
 use Rattle.stage.specs.Region.{within}
 use Rattle.region_file.specs.declared.records.Record.{Record}
 use Rattle.region_file.specs.Records.{record-bytes, most-bytes, record-at, first-record, record-count, most-records}
-use Rattle.region_file.specs.Judge.{whole, head-tests, most-visits, link-tests, link-outcome, nowhere, also, chain-outcome, judge-outcome}
+use Rattle.region_file.specs.Judge.{
+  whole,
+  head-tests,
+  most-visits,
+  record-tests,
+  link-tests,
+  link-outcome,
+  nowhere,
+  also,
+  chain-outcome,
+  judge-outcome,
+}
 
--- what a record has that passes its own tests
+-- what a record has that passes the tests of the listing and further ones
 pub record Sound (further : Record → List Test) (r : Record) : Type 0 where
   pub inside : within (r .region) ≡ true
   pub few : r .count ≤ most-visits
   pub others : AllPass (further r)
 
+pub sound : (further : Record → List Test) (r : Record) → AllPass (record-tests further r) → Sound further r
+sound further r p = record { inside = not-false _ (p .0); few = ltb-false most-visits (r .count) (p .1 .0); others = p .1 .1 }
+
 -- what a link has that passes its tests
-pub record Passed (further : Record → List Test) (file : List ℕ) (seen : Bool) (n : ℕ) : Type 0 where
+pub record Passed (tests : Record → List Test) (file : List ℕ) (seen : Bool) (n : ℕ) : Type 0 where
   pub here : n < record-count file
   pub fresh : seen ≡ false
-  pub sound : Sound further (record-at file n)
+  pub own : AllPass (tests (record-at file n))
 
-module _ {A : Type 0} {after : Outcome A} {b : A} (further : Record → List Test) (file : List ℕ) (seen : Bool) (n : ℕ) where
-  pub passed : first (link-tests further file seen n) after ≡ accepted b → Passed further file seen n × (after ≡ accepted b)
+module _ {A : Type 0} {after : Outcome A} {b : A} (tests : Record → List Test) (file : List ℕ) (seen : Bool) (n : ℕ) where
+  pub passed : first (link-tests tests file seen n) after ≡ accepted b → Passed tests file seen n × (after ≡ accepted b)
   passed e =
-      let r = record-at file n in
-      let p = all-pass after (link-tests further file seen n) e in
-      let here : leb (record-count file) n ≡ false = search p in
-      let inside : not (within (r .region)) ≡ false = search p in
-      let few : ltb most-visits (r .count) ≡ false = search p in
-      let sound : Sound further r = record { inside = not-false _ inside; few = ltb-false most-visits (r .count) few; others = search p } in
-      (record { here = leb-false (record-count file) n here; fresh = search p; sound = sound }, p .1)
+      let p = all-pass after (link-tests tests file seen n) e in
+      (record { here = leb-false (record-count file) n (p .0 .0); fresh = p .0 .1 .0; own = p .0 .1 .1 }, p .1)
 
-module _ (further : Record → List Test) (file : List ℕ) where
-  pub chain-end : (links : ℕ) → 0 < links → (v : ℕ → Bool) (n : ℕ) → n ≡ 0 → chain-outcome further file links v n ≡ accepted tt
+module _ (tests : Record → List Test) (file : List ℕ) where
+  pub chain-end : (links : ℕ) → 0 < links → (v : ℕ → Bool) (n : ℕ) → n ≡ 0 → chain-outcome tests file links v n ≡ accepted tt
   unfolding chain-outcome
   chain-end zero p v n e = absurd (lt-irrefl 0 p)
   chain-end (suc links) p v n e = simp (eq-eqb n 0 e)
 
   -- with no link left no chain is accepted
-  pub chain-some : (v : ℕ → Bool) (n : ℕ) → chain-outcome further file zero v n ≡ accepted tt → ⊥
+  pub chain-some : (v : ℕ → Bool) (n : ℕ) → chain-outcome tests file zero v n ≡ accepted tt → ⊥
   unfolding chain-outcome
   chain-some v n e = accepted-refused (sym e)
 
   module _ (v : ℕ → Bool) (n : ℕ) (ne : n ≡ 0 → ⊥) where
-    pub chain-refused : (links : ℕ) → 0 < links → {k : ℕ} {vs : List ℕ} → link-outcome further file (v n) n ≡ refused k vs
-        → chain-outcome further file links v n ≡ refused k vs
+    pub chain-refused : (links : ℕ) → 0 < links → {k : ℕ} {vs : List ℕ} → link-outcome tests file (v n) n ≡ refused k vs
+        → chain-outcome tests file links v n ≡ refused k vs
     unfolding chain-outcome
     chain-refused zero p e = absurd (lt-irrefl 0 p)
     chain-refused (suc links) p e = simp (ne-eqb n 0 ne)
-        (refused-before tt (chain-outcome further file links (also n v) (record-at file n .next)) (link-tests further file (v n) n) e)
+        (refused-before tt (chain-outcome tests file links (also n v) (record-at file n .next)) (link-tests tests file (v n) n) e)
 
-    pub chain-next : (links : ℕ) → link-outcome further file (v n) n ≡ accepted tt
-        → chain-outcome further file (suc links) v n ≡ chain-outcome further file links (also n v) (record-at file n .next)
+    pub chain-next : (links : ℕ) → link-outcome tests file (v n) n ≡ accepted tt
+        → chain-outcome tests file (suc links) v n ≡ chain-outcome tests file links (also n v) (record-at file n .next)
     unfolding chain-outcome
     chain-next links e = simp (ne-eqb n 0 ne)
-        (passed-before tt (chain-outcome further file links (also n v) (record-at file n .next)) (link-tests further file (v n) n) e)
+        (passed-before tt (chain-outcome tests file links (also n v) (record-at file n .next)) (link-tests tests file (v n) n) e)
 
   -- an accepted chain has ended, or its link passes and the rest is accepted
   pub record Linked (links : ℕ) (v : ℕ → Bool) (n : ℕ) : Type 0 where
     pub some : n ≡ 0 → ⊥
-    pub link : Passed further file (v n) n
-    pub rest : chain-outcome further file links (also n v) (record-at file n .next) ≡ accepted tt
+    pub link : Passed tests file (v n) n
+    pub rest : chain-outcome tests file links (also n v) (record-at file n .next) ≡ accepted tt
 
-  pub linked : (links : ℕ) (v : ℕ → Bool) (n : ℕ) → chain-outcome further file (suc links) v n ≡ accepted tt → (n ≡ 0) ⊎ Linked links v n
+  pub linked : (links : ℕ) (v : ℕ → Bool) (n : ℕ) → chain-outcome tests file (suc links) v n ≡ accepted tt → (n ≡ 0) ⊎ Linked links v n
   unfolding chain-outcome
   linked links v n h = go (eqb n 0) refl h
     where
       go : (z : Bool) → eqb n 0 ≡ z
-          → cond z (accepted tt) (first (link-tests further file (v n) n) (chain-outcome further file links (also n v) (record-at file n .next)))
+          → cond z (accepted tt) (first (link-tests tests file (v n) n) (chain-outcome tests file links (also n v) (record-at file n .next)))
           ≡ accepted tt
           → (n ≡ 0) ⊎ Linked links v n
       go true e h = inl (eqb-true n 0 e)
-      go false e h = let p = passed further file (v n) n h in inr (record { some = eqb-false n 0 e; link = p .0; rest = p .1 })
+      go false e h = let p = passed tests file (v n) n h in inr (record { some = eqb-false n 0 e; link = p .0; rest = p .1 })
 
 -- what a whole file has
 pub record Whole (bytes : ℕ) : Type 0 where
@@ -102,6 +111,6 @@ whole-few bytes e = let m = whole-has bytes e .most in omega (arith, m)
 
 -- the chain of an accepted file is accepted
 pub judged-chain : (further : Record → List Test) (file : List ℕ) → judge-outcome further file ≡ accepted tt
-    → chain-outcome further file most-records nowhere (first-record file) ≡ accepted tt
+    → chain-outcome (record-tests further) file most-records nowhere (first-record file) ≡ accepted tt
 unfolding judge-outcome
-judged-chain further file e = all-pass (chain-outcome further file most-records nowhere (first-record file)) (head-tests file) e .1
+judged-chain further file e = all-pass (chain-outcome (record-tests further) file most-records nowhere (first-record file)) (head-tests file) e .1

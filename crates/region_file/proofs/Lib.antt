@@ -6,6 +6,7 @@ pub mod Numbers
 pub mod Ends
 pub mod Stops
 pub mod OnChain
+pub mod Accepted
 pub mod Further
 pub mod Theorem
 pub mod Examples

@@ -12,12 +12,13 @@ use borrow.Author.Tests.{eq-eqb, ne-eqb}
 use lib.Dec.{eqb}
 use Rattle.ranges.proofs.Order.{eq-or-ne}
 use Rattle.refusal.specs.Outcome.{accepted, Test}
+use Rattle.refusal.proofs.First.{AllPass}
 use Rattle.region_file.specs.declared.records.Record.{Record}
 use Rattle.region_file.specs.Records.{record-at, first-record, most-records}
 use Rattle.region_file.specs.Chain.{numbers, member}
-use Rattle.region_file.specs.Judge.{nowhere, also, chain-outcome}
+use Rattle.region_file.specs.Judge.{record-tests, nowhere, also, chain-outcome}
 use Rattle.region_file.specs.Theorem.{WholeChain}
-use Rattle.region_file.proofs.Chain.{Sound, Linked, linked, chain-some, judged-chain}
+use Rattle.region_file.proofs.Chain.{Linked, linked, chain-some, judged-chain}
 
 module _ (file : List ℕ) (k : ℕ) where
   pub member-none : (links n : ℕ) → links ≤ 0 → member k (numbers file links n) ≡ false
@@ -64,15 +65,15 @@ module _ (file : List ℕ) (k : ℕ) where
 
 -- ---- an accepted chain
 
-module _ (further : Record → List Test) (file : List ℕ) (k : ℕ) where
+module _ (tests : Record → List Test) (file : List ℕ) (k : ℕ) where
   -- none of its numbers is that of a record which an earlier link named
-  pub member-visited : (links : ℕ) (v : ℕ → Bool) (n : ℕ) → chain-outcome further file links v n ≡ accepted tt → v k ≡ true
+  pub member-visited : (links : ℕ) (v : ℕ → Bool) (n : ℕ) → chain-outcome tests file links v n ≡ accepted tt → v k ≡ true
       → member k (numbers file links n) ≡ false
-  member-visited zero v n h seen = absurd (chain-some further file v n h)
-  member-visited (suc links) v n h seen = go (linked further file links v n h) (member-visited links)
+  member-visited zero v n h seen = absurd (chain-some tests file v n h)
+  member-visited (suc links) v n h seen = go (linked tests file links v n h) (member-visited links)
     where
-      go : (n ≡ 0) ⊎ Linked further file links v n
-          → ((v : ℕ → Bool) (n : ℕ) → chain-outcome further file links v n ≡ accepted tt → v k ≡ true → member k (numbers file links n) ≡ false)
+      go : (n ≡ 0) ⊎ Linked tests file links v n
+          → ((v : ℕ → Bool) (n : ℕ) → chain-outcome tests file links v n ≡ accepted tt → v k ≡ true → member k (numbers file links n) ≡ false)
           → member k (numbers file (suc links) n) ≡ false
       go (inl e) more = member-end file k (suc links) n e
       go (inr l) more =
@@ -80,32 +81,32 @@ module _ (further : Record → List Test) (file : List ℕ) (k : ℕ) where
           let still : also n v k ≡ true = ap (λ (b : Bool). eqb k n || b) seen ∙ or-true (eqb k n) in
           member-rest file k links n (l .some) other ∙ more (also n v) (record-at file n .next) (l .rest) still
 
-  -- each of its numbers names a record that passes
-  pub member-sound : (links : ℕ) (v : ℕ → Bool) (n : ℕ) → chain-outcome further file links v n ≡ accepted tt
-      → member k (numbers file links n) ≡ true → Sound further (record-at file k)
-  member-sound zero v n h m = absurd (chain-some further file v n h)
-  member-sound (suc links) v n h m = go (linked further file links v n h) (eq-or-ne n k) (member-sound links)
+  -- each of its numbers names a record that passes its tests
+  pub member-passes : (links : ℕ) (v : ℕ → Bool) (n : ℕ) → chain-outcome tests file links v n ≡ accepted tt
+      → member k (numbers file links n) ≡ true → AllPass (tests (record-at file k))
+  member-passes zero v n h m = absurd (chain-some tests file v n h)
+  member-passes (suc links) v n h m = go (linked tests file links v n h) (eq-or-ne n k) (member-passes links)
     where
-      go : (n ≡ 0) ⊎ Linked further file links v n → (n ≡ k) ⊎ (n ≢ k)
-          → ((v : ℕ → Bool) (n : ℕ) → chain-outcome further file links v n ≡ accepted tt → member k (numbers file links n) ≡ true
-          → Sound further (record-at file k))
-          → Sound further (record-at file k)
+      go : (n ≡ 0) ⊎ Linked tests file links v n → (n ≡ k) ⊎ (n ≢ k)
+          → ((v : ℕ → Bool) (n : ℕ) → chain-outcome tests file links v n ≡ accepted tt → member k (numbers file links n) ≡ true
+          → AllPass (tests (record-at file k)))
+          → AllPass (tests (record-at file k))
       go (inl e) is more = absurd (true≢false (sym m ∙ member-end file k (suc links) n e))
-      go (inr l) (inl e) more = subst (λ (j : ℕ). Sound further (record-at file j)) e (l .link .sound)
+      go (inr l) (inl e) more = subst (λ (j : ℕ). AllPass (tests (record-at file j))) e (l .link .own)
       go (inr l) (inr e) more =
           more (also n v) (record-at file n .next) (l .rest) (sym (member-rest file k links n (l .some) e) ∙ m)
 
 -- looking at more links finds no more records
-numbers-enough : (further : Record → List Test) (file : List ℕ) (links more : ℕ) (v : ℕ → Bool) (n : ℕ)
-    → chain-outcome further file links v n ≡ accepted tt → numbers file (links + more) n ≡ numbers file links n
+numbers-enough : (tests : Record → List Test) (file : List ℕ) (links more : ℕ) (v : ℕ → Bool) (n : ℕ)
+    → chain-outcome tests file links v n ≡ accepted tt → numbers file (links + more) n ≡ numbers file links n
 unfolding numbers
-numbers-enough further file zero more v n h = absurd (chain-some further file v n h)
-numbers-enough further file (suc links) more v n h =
+numbers-enough tests file zero more v n h = absurd (chain-some tests file v n h)
+numbers-enough tests file (suc links) more v n h =
     let e : suc links + more ≡ suc (links + more) = omega arith in
-    ap (λ (k : ℕ). numbers file k n) e ∙ go (linked further file links v n h) (λ v n h. numbers-enough further file links more v n h)
+    ap (λ (k : ℕ). numbers file k n) e ∙ go (linked tests file links v n h) (λ v n h. numbers-enough tests file links more v n h)
   where
-    go : (n ≡ 0) ⊎ Linked further file links v n
-        → ((v : ℕ → Bool) (n : ℕ) → chain-outcome further file links v n ≡ accepted tt → numbers file (links + more) n ≡ numbers file links n)
+    go : (n ≡ 0) ⊎ Linked tests file links v n
+        → ((v : ℕ → Bool) (n : ℕ) → chain-outcome tests file links v n ≡ accepted tt → numbers file (links + more) n ≡ numbers file links n)
         → numbers file (suc (links + more)) n ≡ numbers file (suc links) n
     go (inl e) rest = simp (eq-eqb n 0 e)
     go (inr l) rest = simp (ne-eqb n 0 (l .some), rest _ _ (l .rest))
@@ -114,4 +115,4 @@ pub whole-chain : WholeChain
 whole-chain further file links e h =
     let k : links ≡ most-records + (links - most-records) = omega arith in
     ap (λ (m : ℕ). numbers file m (first-record file)) k
-    ∙ numbers-enough further file most-records (links - most-records) nowhere (first-record file) (judged-chain further file e)
+    ∙ numbers-enough (record-tests further) file most-records (links - most-records) nowhere (first-record file) (judged-chain further file e)

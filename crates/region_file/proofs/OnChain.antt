@@ -9,35 +9,35 @@ use lib.Dec.{eqb}
 use Rattle.refusal.specs.Outcome.{accepted, Test, first}
 use Rattle.region_file.specs.declared.records.Record.{Record}
 use Rattle.region_file.specs.Records.{record-bytes, record-at, first-record, record-count, most-records}
-use Rattle.region_file.specs.Judge.{also, link-tests, head-tests, nowhere, chain-outcome, judge-outcome}
+use Rattle.region_file.specs.Judge.{also, record-tests, link-tests, head-tests, nowhere, chain-outcome, judge-outcome}
 use Rattle.region_file.specs.Theorem.{SameOnChain, OnlyTheChain}
 
-module _ (further : Record → List Test) (file other : List ℕ) (On : ℕ → Type 0) (same : SameOnChain file other On) where
+module _ (tests : Record → List Test) (file other : List ℕ) (On : ℕ → Type 0) (same : SameOnChain file other On) where
   counts : record-count file ≡ record-count other
   counts = ap (λ (k : ℕ). k / record-bytes) (same .bytes)
 
-  chains : (links : ℕ) (v : ℕ → Bool) (n : ℕ) → On n → chain-outcome further file links v n ≡ chain-outcome further other links v n
+  chains : (links : ℕ) (v : ℕ → Bool) (n : ℕ) → On n → chain-outcome tests file links v n ≡ chain-outcome tests other links v n
   unfolding chain-outcome
   chains zero v n o = refl
   chains (suc links) v n o = go (eqb n 0) refl (chains links)
     where
-      go : (z : Bool) → eqb n 0 ≡ z → ((v : ℕ → Bool) (n : ℕ) → On n → chain-outcome further file links v n ≡ chain-outcome further other links v n)
-          → cond z (accepted tt) (first (link-tests further file (v n) n) (chain-outcome further file links (also n v) (record-at file n .next)))
-          ≡ cond z (accepted tt) (first (link-tests further other (v n) n) (chain-outcome further other links (also n v) (record-at other n .next)))
+      go : (z : Bool) → eqb n 0 ≡ z → ((v : ℕ → Bool) (n : ℕ) → On n → chain-outcome tests file links v n ≡ chain-outcome tests other links v n)
+          → cond z (accepted tt) (first (link-tests tests file (v n) n) (chain-outcome tests file links (also n v) (record-at file n .next)))
+          ≡ cond z (accepted tt) (first (link-tests tests other (v n) n) (chain-outcome tests other links (also n v) (record-at other n .next)))
       go true e more = refl
       go false e more =
           let ne = eqb-false n 0 e in
           let count = counts in
           let r = same .records-same n o ne in
-          let tests : link-tests further file (v n) n ≡ link-tests further other (v n) n = cc in
-          ap (λ (ts : List Test). first ts (chain-outcome further file links (also n v) (record-at file n .next))) tests
-          ∙ ap (first (link-tests further other (v n) n)) (more (also n v) (record-at file n .next) (same .goes-on n o ne)
-          ∙ ap (λ (q : Record). chain-outcome further other links (also n v) (q .next)) r)
+          let alike : link-tests tests file (v n) n ≡ link-tests tests other (v n) n = cc in
+          ap (λ (ts : List Test). first ts (chain-outcome tests file links (also n v) (record-at file n .next))) alike
+          ∙ ap (first (link-tests tests other (v n) n)) (more (also n v) (record-at file n .next) (same .goes-on n o ne)
+          ∙ ap (λ (q : Record). chain-outcome tests other links (also n v) (q .next)) r)
 
 pub only-the-chain : OnlyTheChain
 unfolding judge-outcome
 only-the-chain further file other On same =
     let heads : head-tests file ≡ head-tests other = cc in
-    ap (λ (ts : List Test). first ts (chain-outcome further file most-records nowhere (first-record file))) heads
-    ∙ ap (first (head-tests other)) (chains further file other On same most-records nowhere (first-record file) (same .begins)
-    ∙ ap (chain-outcome further other most-records nowhere) (same .firsts))
+    ap (λ (ts : List Test). first ts (chain-outcome (record-tests further) file most-records nowhere (first-record file))) heads
+    ∙ ap (first (head-tests other)) (chains (record-tests further) file other On same most-records nowhere (first-record file) (same .begins)
+    ∙ ap (chain-outcome (record-tests further) other most-records nowhere) (same .firsts))

@@ -12,23 +12,34 @@ use Rattle.region_file.specs.declared.chains.Link.{Link}
 use Rattle.region_file.specs.declared.records.Record.{Record}
 use Rattle.region_file.specs.Records.{first-record, most-records}
 use Rattle.region_file.specs.Chain.{first-link, link-in, no-link}
-use Rattle.region_file.specs.Judge.{head-tests, head-outcome, link-outcome, nowhere, also, chain-outcome, judge-outcome, chain-stop, judge-stop}
+use Rattle.region_file.specs.Judge.{
+  head-tests,
+  record-tests,
+  head-outcome,
+  link-outcome,
+  nowhere,
+  also,
+  chain-outcome,
+  judge-outcome,
+  chain-stop,
+  judge-stop,
+}
 
-module _ (further : Record → List Test) (file : List ℕ) (v : ℕ → Bool) (at : Link) where
-  pub stop-end : (links : ℕ) → at .named ≡ 0 → chain-stop further file links v at ≡ at
+module _ (tests : Record → List Test) (file : List ℕ) (v : ℕ → Bool) (at : Link) where
+  pub stop-end : (links : ℕ) → at .named ≡ 0 → chain-stop tests file links v at ≡ at
   unfolding chain-stop
   stop-end zero e = refl
   stop-end (suc links) e = simp (eq-eqb (at .named) 0 e)
 
-  pub stop-refused : (links : ℕ) {k : ℕ} {vs : List ℕ} → (at .named ≡ 0 → ⊥) → link-outcome further file (v (at .named)) (at .named) ≡ refused k vs
-      → chain-stop further file links v at ≡ at
+  pub stop-refused : (links : ℕ) {k : ℕ} {vs : List ℕ} → (at .named ≡ 0 → ⊥) → link-outcome tests file (v (at .named)) (at .named) ≡ refused k vs
+      → chain-stop tests file links v at ≡ at
   unfolding chain-stop
   stop-refused zero ne e = refl
   stop-refused (suc links) ne e =
       simp (ne-eqb (at .named) 0 ne) (granted-refused _ at e)
 
-  pub stop-next : (links : ℕ) → (at .named ≡ 0 → ⊥) → link-outcome further file (v (at .named)) (at .named) ≡ accepted tt
-      → chain-stop further file (suc links) v at ≡ chain-stop further file links (also (at .named) v) (link-in file (at .named))
+  pub stop-next : (links : ℕ) → (at .named ≡ 0 → ⊥) → link-outcome tests file (v (at .named)) (at .named) ≡ accepted tt
+      → chain-stop tests file (suc links) v at ≡ chain-stop tests file links (also (at .named) v) (link-in file (at .named))
   unfolding chain-stop
   stop-next links ne e =
       simp (ne-eqb (at .named) 0 ne) (granted-accepted _ at e)
@@ -39,16 +50,16 @@ module _ (further : Record → List Test) (file : List ℕ) where
       → (judge-outcome further file ≡ refused k vs) × (judge-stop further file ≡ no-link)
   unfolding judge-outcome judge-stop
   head-refused e = (
-    refused-before tt (chain-outcome further file most-records nowhere (first-record file)) (head-tests file) e,
-    granted-refused (chain-stop further file most-records nowhere (first-link file)) no-link e,
+    refused-before tt (chain-outcome (record-tests further) file most-records nowhere (first-record file)) (head-tests file) e,
+    granted-refused (chain-stop (record-tests further) file most-records nowhere (first-link file)) no-link e,
   )
 
   -- record 0 passes: both are those of the chain
   pub head-passed : head-outcome file ≡ accepted tt
-      → (judge-outcome further file ≡ chain-outcome further file most-records nowhere (first-record file))
-      × (judge-stop further file ≡ chain-stop further file most-records nowhere (first-link file))
+      → (judge-outcome further file ≡ chain-outcome (record-tests further) file most-records nowhere (first-record file))
+      × (judge-stop further file ≡ chain-stop (record-tests further) file most-records nowhere (first-link file))
   unfolding judge-outcome judge-stop
   head-passed e = (
-    passed-before tt (chain-outcome further file most-records nowhere (first-record file)) (head-tests file) e,
-    granted-accepted (chain-stop further file most-records nowhere (first-link file)) no-link e,
+    passed-before tt (chain-outcome (record-tests further) file most-records nowhere (first-record file)) (head-tests file) e,
+    granted-accepted (chain-stop (record-tests further) file most-records nowhere (first-link file)) no-link e,
   )

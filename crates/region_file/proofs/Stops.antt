@@ -17,34 +17,34 @@ use Rattle.refusal.proofs.First.{accepted-refused, AllPass, all-pass}
 use Rattle.region_file.specs.declared.records.Record.{Record}
 use Rattle.region_file.specs.Records.{record-count, most-records}
 use Rattle.region_file.specs.Chain.{link-at}
-use Rattle.region_file.specs.Judge.{head-tests, head-outcome, link-outcome, also, chain-outcome, chain-stop}
+use Rattle.region_file.specs.Judge.{head-tests, record-tests, head-outcome, link-outcome, also, chain-outcome, chain-stop}
 use Rattle.region_file.specs.Theorem.{named-before, outcome-at, StopsAt, Stops}
 use Rattle.region_file.proofs.Chain.{passed, chain-end, chain-refused, chain-next, whole-few}
 use Rattle.region_file.proofs.Marks.{marked, free, free-fresh, fresh-at, marked-fresh, free-set, free-some, marked-set, unmarked}
 use Rattle.region_file.proofs.Stop.{stop-end, stop-refused, stop-next, head-refused, head-passed}
 
-module _ (further : Record → List Test) (file : List ℕ) where
+module _ (tests : Record → List Test) (file : List ℕ) where
   abbrev named : ℕ → ℕ
   named k = link-at file k .named
 
   abbrev tested : ℕ → Outcome Unit
-  tested k = link-outcome further file (named-before file k (named k)) (named k)
+  tested k = link-outcome tests file (named-before file k (named k)) (named k)
 
   -- link i names a record, and that one passes
   abbrev Passes : ℕ → Type 0
-  Passes i = (named i ≡ 0 → ⊥) × (outcome-at further file i ≡ accepted tt)
+  Passes i = (named i ≡ 0 → ⊥) × (outcome-at tests file i ≡ accepted tt)
 
   -- the judgement from link j on stops at link k
   record StopsFrom (links j k : ℕ) : Type 0 where
-    pub stop : chain-stop further file links (named-before file j) (link-at file j) ≡ link-at file k
-    pub decides : chain-outcome further file links (named-before file j) (named j) ≡ outcome-at further file k
-    pub ends : outcome-at further file k ≡ accepted tt → named k ≡ 0
+    pub stop : chain-stop tests file links (named-before file j) (link-at file j) ≡ link-at file k
+    pub decides : chain-outcome tests file links (named-before file j) (named j) ≡ outcome-at tests file k
+    pub ends : outcome-at tests file k ≡ accepted tt → named k ≡ 0
     pub earlier : (i : ℕ) → i < k → Passes i
 
-  at-end : (j : ℕ) → named j ≡ 0 → outcome-at further file j ≡ accepted tt
+  at-end : (j : ℕ) → named j ≡ 0 → outcome-at tests file j ≡ accepted tt
   at-end j e = simp (eq-eqb (named j) 0 e)
 
-  at-record : (j : ℕ) → (named j ≡ 0 → ⊥) → outcome-at further file j ≡ tested j
+  at-record : (j : ℕ) → (named j ≡ 0 → ⊥) → outcome-at tests file j ≡ tested j
   at-record j ne = simp (ne-eqb (named j) 0 ne)
 
   one-more : (j : ℕ) → ((i : ℕ) → i < j → Passes i) → Passes j → (i : ℕ) → i < suc j → Passes i
@@ -69,7 +69,7 @@ module _ (further : Record → List Test) (file : List ℕ) where
             → Found links
             → (k : ℕ) × StopsFrom (suc links) j k
         goes-on ne e more =
-            let p = passed further file (named-before file j (named j)) (named j) e .0 in
+            let p = passed tests file (named-before file j (named j)) (named j) e .0 in
             let o = p .here in
             let k : named j < length ms = omega (arith, o) in
             let clear = unmarked ms (named j) (ap (λ (v : ℕ → Bool). v (named j)) m ∙ p .fresh) in
@@ -81,8 +81,8 @@ module _ (further : Record → List Test) (file : List ℕ) where
             let s = r .1 in (
               r .0,
               record {
-                stop = stop-next further file (named-before file j) (link-at file j) links ne e ∙ s .stop;
-                decides = chain-next further file (named-before file j) (named j) ne links e ∙ s .decides;
+                stop = stop-next tests file (named-before file j) (link-at file j) links ne e ∙ s .stop;
+                decides = chain-next tests file (named-before file j) (named j) ne links e ∙ s .decides;
                 ends = s .ends;
                 earlier = s .earlier;
               },
@@ -94,8 +94,8 @@ module _ (further : Record → List Test) (file : List ℕ) where
         go (inl e) o q more = (
           j,
           record {
-            stop = stop-end further file (named-before file j) (link-at file j) (suc links) e;
-            decides = chain-end further file (suc links) (omega arith) (named-before file j) (named j) e ∙ sym (at-end j e);
+            stop = stop-end tests file (named-before file j) (link-at file j) (suc links) e;
+            decides = chain-end tests file (suc links) (omega arith) (named-before file j) (named j) e ∙ sym (at-end j e);
             ends = λ h. e;
             earlier = earlier;
           },
@@ -104,8 +104,8 @@ module _ (further : Record → List Test) (file : List ℕ) where
         go (inr ne) (refused n vs) q more = (
           j,
           record {
-            stop = stop-refused further file (named-before file j) (link-at file j) (suc links) ne q;
-            decides = chain-refused further file (named-before file j) (named j) ne (suc links) (omega arith) q ∙ sym (at-record j ne ∙ q);
+            stop = stop-refused tests file (named-before file j) (link-at file j) (suc links) ne q;
+            decides = chain-refused tests file (named-before file j) (named j) ne (suc links) (omega arith) q ∙ sym (at-record j ne ∙ q);
             ends = λ h. absurd (accepted-refused (sym h ∙ at-record j ne ∙ q));
             earlier = earlier;
           },
@@ -118,7 +118,7 @@ stops-at further file h =
     let few = whole-few (length file) (not-false _ (heads .0)) in
     let ms : List ℕ = replicate most-records 0 in
     let fresh : free ms ≡ most-records = free-fresh most-records in
-    let r = from further file few most-records 0 ms (length-replicate {A = ℕ} most-records 0) (fresh-at most-records 0) (omega arith)
+    let r = from (record-tests further) file few most-records 0 ms (length-replicate {A = ℕ} most-records 0) (fresh-at most-records 0) (omega arith)
     (marked-fresh most-records) (λ i less. absurd (not-suc-le-zero less)) in
     let s = r .1 in
     let judged = head-passed further file h in

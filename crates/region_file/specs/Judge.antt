@@ -45,7 +45,7 @@ abbrev pub too-many : Record → Test
 too-many r = record { number = 15; holds = ltb most-visits (r .count) }
 
 -- the tests of a record that the listing makes after 15: none. A loader that accepts fewer files gives a list of its own, which every
--- definition below takes as `further`.
+-- definition of a whole judgement takes as `further`.
 abbrev pub no-further-tests : Record → List Test
 no-further-tests r = []
 
@@ -53,22 +53,25 @@ no-further-tests r = []
 abbrev pub record-tests : (Record → List Test) → Record → List Test
 record-tests further r = outside (r .region) ∷ too-many r ∷ further r
 
+-- those that the listing makes
+abbrev pub listing-tests : Record → List Test
+listing-tests = record-tests no-further-tests
+
+-- The chain of a file is judged by any list of tests of a record, `tests`; those of the listing and of other loaders are `record-tests`.
+
 -- the tests of a link that names record n, in order. `seen`: an earlier link named it.
 abbrev pub link-tests : (Record → List Test) → List ℕ → Bool → ℕ → List Test
-link-tests further file seen n = missing file n ∷ returning seen ∷ record-tests further (record-at file n)
+link-tests tests file seen n = missing file n ∷ returning seen ∷ tests (record-at file n)
 
 -- what each list of tests comes to by itself
 abbrev pub head-outcome : List ℕ → Outcome Unit
 head-outcome file = first (head-tests file) (accepted tt)
 
-abbrev pub further-outcome : (Record → List Test) → Record → Outcome Unit
-further-outcome further r = first (further r) (accepted tt)
-
 abbrev pub record-outcome : (Record → List Test) → Record → Outcome Unit
-record-outcome further r = first (record-tests further r) (accepted tt)
+record-outcome tests r = first (tests r) (accepted tt)
 
 abbrev pub link-outcome : (Record → List Test) → List ℕ → Bool → ℕ → Outcome Unit
-link-outcome further file seen n = first (link-tests further file seen n) (accepted tt)
+link-outcome tests file seen n = first (link-tests tests file seen n) (accepted tt)
 
 -- the records that links have named: none before the first link
 abbrev pub nowhere : ℕ → Bool
@@ -81,26 +84,26 @@ also n visited k = eqb k n || visited k
 -- the judgement of the links from the number n on, after links that named the records `visited`. Number 0 ends the chain. A chain that has
 -- not ended after `links` links is refused under 14; from most-records on the number of links never matters (`ChainsEnd`).
 unfoldable pub chain-outcome : (Record → List Test) → List ℕ → ℕ → (ℕ → Bool) → ℕ → Outcome Unit
-chain-outcome further file zero visited n = refused 14 []
-chain-outcome further file (suc links) visited n =
+chain-outcome tests file zero visited n = refused 14 []
+chain-outcome tests file (suc links) visited n =
     cond (eqb n 0) (accepted tt)
-    (first (link-tests further file (visited n) n) (chain-outcome further file links (also n visited) (record-at file n .next)))
+    (first (link-tests tests file (visited n) n) (chain-outcome tests file links (also n visited) (record-at file n .next)))
 
 -- the judgement of the whole file
 unfoldable pub judge-outcome : (Record → List Test) → List ℕ → Outcome Unit
-judge-outcome further file = first (head-tests file) (chain-outcome further file most-records nowhere (first-record file))
+judge-outcome further file = first (head-tests file) (chain-outcome (record-tests further) file most-records nowhere (first-record file))
 
 -- ---- where it stops
 
 -- the link at which the judgement of the links from `at` on stops: the first that is refused, or the one that ends the chain
 unfoldable pub chain-stop : (Record → List Test) → List ℕ → ℕ → (ℕ → Bool) → Link → Link
-chain-stop further file zero visited at = at
-chain-stop further file (suc links) visited at =
+chain-stop tests file zero visited at = at
+chain-stop tests file (suc links) visited at =
     let n = at .named in
     cond (eqb n 0) at
-    (granted (link-outcome further file (visited n) n) (chain-stop further file links (also n visited) (link-in file n)) at)
+    (granted (link-outcome tests file (visited n) n) (chain-stop tests file links (also n visited) (link-in file n)) at)
 
 -- that of the whole file: none where the tests of the file and its record 0 refuse it
 unfoldable pub judge-stop : (Record → List Test) → List ℕ → Link
 judge-stop further file =
-    granted (head-outcome file) (chain-stop further file most-records nowhere (first-link file)) no-link
+    granted (head-outcome file) (chain-stop (record-tests further) file most-records nowhere (first-link file)) no-link

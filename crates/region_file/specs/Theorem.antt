@@ -1,6 +1,6 @@
 -- What users rely on: every chain ends within the number of links that its judgement looks at, nothing off the chain is looked at, a loader
 -- with further tests accepts the files of the listing whose records pass them, and a judgement stops at the first link that does not pass.
--- All this holds for every list of further tests.
+-- All this holds for every list of tests of a record, or of further tests.
 use mathlib.Core.Path.{_≡_}
 use mathlib.Core.Bool.{Bool, true, cond}
 use mathlib.Core.List.{List}
@@ -16,7 +16,8 @@ use Rattle.region_file.specs.Judge.{
   whole,
   head-outcome,
   no-further-tests,
-  further-outcome,
+  record-tests,
+  record-outcome,
   link-outcome,
   nowhere,
   also,
@@ -27,8 +28,8 @@ use Rattle.region_file.specs.Judge.{
 
 -- a chain of a whole file is judged the same, however many links from most-records on the judgement looks at
 abbrev pub ChainsEnd : Type 0
-ChainsEnd = (further : Record → List Test) (file : List ℕ) (links n : ℕ) → whole (length file) ≡ true → most-records ≤ links
-    → chain-outcome further file links nowhere n ≡ chain-outcome further file most-records nowhere n
+ChainsEnd = (tests : Record → List Test) (file : List ℕ) (links n : ℕ) → whole (length file) ≡ true → most-records ≤ links
+    → chain-outcome tests file links nowhere n ≡ chain-outcome tests file most-records nowhere n
 
 -- the numbers of an accepted file are its whole chain: looking at more links finds no more
 abbrev pub WholeChain : Type 0
@@ -55,7 +56,7 @@ abbrev pub FurtherTests : Type 0
 FurtherTests = (further : Record → List Test) (file : List ℕ)
     → (judge-outcome further file ≡ accepted tt)
     ↔ ((judge-outcome no-further-tests file ≡ accepted tt)
-    × ((n : ℕ) → on-chain file n ≡ true → further-outcome further (record-at file n) ≡ accepted tt))
+    × ((n : ℕ) → on-chain file n ≡ true → record-outcome further (record-at file n) ≡ accepted tt))
 
 -- the records that the links before link k name
 unfoldable pub named-before : List ℕ → ℕ → ℕ → Bool
@@ -64,16 +65,16 @@ named-before file (suc k) = also (link-at file k .named) (named-before file k)
 
 -- what link k comes to: its tests decide, unless it ends the chain
 abbrev pub outcome-at : (Record → List Test) → List ℕ → ℕ → Outcome Unit
-outcome-at further file k =
+outcome-at tests file k =
     let n = link-at file k .named in
-    cond (eqb n 0) (accepted tt) (link-outcome further file (named-before file k n) n)
+    cond (eqb n 0) (accepted tt) (link-outcome tests file (named-before file k n) n)
 
 -- the judgement of a file stops at link k: it is the first that ends the chain or is refused, and what it comes to is the judgement
 pub record StopsAt (further : Record → List Test) (file : List ℕ) (k : ℕ) : Type 0 where
   pub stop : judge-stop further file ≡ link-at file k
-  pub decides : judge-outcome further file ≡ outcome-at further file k
-  pub ends : outcome-at further file k ≡ accepted tt → link-at file k .named ≡ 0
-  pub earlier : (i : ℕ) → i < k → (link-at file i .named ≡ 0 → ⊥) × (outcome-at further file i ≡ accepted tt)
+  pub decides : judge-outcome further file ≡ outcome-at (record-tests further) file k
+  pub ends : outcome-at (record-tests further) file k ≡ accepted tt → link-at file k .named ≡ 0
+  pub earlier : (i : ℕ) → i < k → (link-at file i .named ≡ 0 → ⊥) × (outcome-at (record-tests further) file i ≡ accepted tt)
 
 -- the judgement of a file whose record 0 passes stops at some link; that of another stops at none
 pub record Stops (further : Record → List Test) (file : List ℕ) : Type 0 where

@@ -14,7 +14,7 @@ ghost use lib.ListN.{getD};
 ghost use Rattle.refusal.specs.Refusal.{of-judgement};
 ghost use Rattle.region_file.specs.Records.{first-record, record-count, most-records};
 ghost use Rattle.region_file.specs.Chain.{on-chain, first-link};
-ghost use Rattle.region_file.specs.Judge.{no-further-tests, record-outcome, link-outcome, chain-outcome, nowhere, chain-stop};
+ghost use Rattle.region_file.specs.Judge.{listing-tests, record-outcome, link-outcome, chain-outcome, nowhere, chain-stop};
 
 // The largest count of visits that a record may have.
 const MOST_VISITS: u32 = 4096;
@@ -34,7 +34,7 @@ pub struct Judged {
 
 // The tests of a record by itself, 10 and 15. A loader that makes further tests makes them here, after 15.
 fn judge_record(named: Record) -> Judgement
-    ensures { λ r. ⌜ of-judgement r ≡ record-outcome no-further-tests named ⌝ }
+    ensures { λ r. ⌜ of-judgement r ≡ record-outcome listing-tests named ⌝ }
 {
     let region = named.region;
     if !region.within() {
@@ -48,7 +48,7 @@ fn judge_record(named: Record) -> Judgement
 
 // The tests of a link that names record n: 13, 14, and then those of the record. `seen`: an earlier link named it.
 fn judge_named(file: &[u8], n: u32, seen: bool) -> Judgement
-    ensures { λ r. ⌜ of-judgement r ≡ link-outcome no-further-tests (now (file .entry)) seen n ⌝ }
+    ensures { λ r. ⌜ of-judgement r ≡ link-outcome listing-tests (now (file .entry)) seen n ⌝ }
 {
     if record_count(file) <= n as usize {
         return Judgement::Refused(Refusal::MissingRecord);
@@ -74,8 +74,8 @@ fn is_marked(marks: &[u8], at: usize) -> bool
 pub(crate) fn judge_chain(file: &[u8]) -> Judged
     requires { ⌜ record-count (now file) ≤ most-records ⌝ }
     ensures judgement { λ r. ⌜
-        of-judgement (r .judgement) ≡ chain-outcome no-further-tests (now (file .entry)) most-records nowhere (first-record (now (file .entry))) ⌝ }
-    ensures link { λ r. ⌜ r .link ≡ chain-stop no-further-tests (now (file .entry)) most-records nowhere (first-link (now (file .entry))) ⌝ }
+        of-judgement (r .judgement) ≡ chain-outcome listing-tests (now (file .entry)) most-records nowhere (first-record (now (file .entry))) ⌝ }
+    ensures link { λ r. ⌜ r .link ≡ chain-stop listing-tests (now (file .entry)) most-records nowhere (first-link (now (file .entry))) ⌝ }
 {
     let mut marks = [0u8; MOST_RECORDS as usize];
     let mut holder = 0;

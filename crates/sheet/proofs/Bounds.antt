@@ -28,10 +28,11 @@ use Rattle.stage.proofs.Limits.{within-has}
 use Rattle.region_file.specs.declared.records.Record.{Record}
 use Rattle.region_file.specs.Records.{word-at, record-at, record-count, most-records}
 use Rattle.region_file.specs.Chain.{chain-numbers}
-use Rattle.region_file.specs.Judge.{judge-outcome}
+use Rattle.region_file.specs.Judge.{record-tests, judge-outcome}
+use Rattle.region_file.proofs.Chain.{sound}
+use Rattle.region_file.proofs.Accepted.{few-records, Good, numbers-good}
 use Rattle.visits.specs.Visits.{planned, position-of, file-visit, record-visits, visits-of, file-visits}
 use Rattle.sheet.specs.Theorem.{Near, Narrow}
-use Rattle.sheet.proofs.Count.{few-records, Good, numbers-good}
 
 -- ---- a position
 
@@ -68,14 +69,15 @@ sequence-fits s hx hy =
 -- ---- visits
 
 module _ (further : Record → List Test) (file : List ℕ) (bytes : Below 256 file) (few : record-count file ≤ most-records) where
-  visit-narrow : (n i : ℕ) → Good further file n → i < planned file n .count → Narrow (file-visit n (planned file n) i)
+  visit-narrow : (n i : ℕ) → Good (record-tests further) file n → i < planned file n .count → Narrow (file-visit n (planned file n) i)
   unfolding position-of record-at
   visit-narrow n i g h =
       let r = planned file n in
       let here = g .here in
-      let most = g .sound .few in
+      let own = sound further r (g .own) in
+      let most = own .few in
       let F = sequence-fits (r .shift) (word-lt file bytes _) (word-lt file bytes _) in
-      let W = within-has (r .region) (g .sound .inside) in
+      let W = within-has (r .region) (own .inside) in
       record {
         number = omega (arith, here);
         index = omega (arith, most);
@@ -83,7 +85,7 @@ module _ (further : Record → List Test) (file : List ℕ) (bytes : Below 256 f
         y = position-near (r .region .top) (r .region .height) _ (W .top) (W .height) (F .y i);
       }
 
-  records-narrow : (ns : List ℕ) → Each (Good further file) ns → Each Narrow (visits-of file ns)
+  records-narrow : (ns : List ℕ) → Each (Good (record-tests further) file) ns → Each Narrow (visits-of file ns)
   unfolding visits-of
   records-narrow [] g = tt
   records-narrow (n ∷ ns) g =

@@ -18,8 +18,8 @@ use Rattle.stage.specs.Region.{within}
 use Rattle.region_file.specs.declared.records.Record.{Record}
 use Rattle.region_file.specs.Records.{record-count, most-records}
 use Rattle.region_file.specs.Chain.{numbers}
-use Rattle.region_file.specs.Judge.{chain-outcome}
-use Rattle.region_file.proofs.Chain.{Linked, linked, chain-some}
+use Rattle.region_file.specs.Judge.{record-tests, chain-outcome}
+use Rattle.region_file.proofs.Chain.{sound, Linked, linked, chain-some}
 use Rattle.visits.specs.declared.file_walks.FileVisit.{FileVisit}
 use Rattle.visits.specs.declared.file_walks.FileWalk.{FileWalk}
 use Rattle.visits.specs.Visits.{planned, position-of, visit-position-outcome, file-visit, record-visits, visits-of}
@@ -172,14 +172,17 @@ ended-comes file = before-comes file 0 0 ∙ visits-from-none file 0 0 (le-refl 
 -- ---- an accepted file
 
 pub visits-from-accepted : (further : Record → List Test) (file : List ℕ) (links : ℕ) (v : ℕ → Bool) (n : ℕ)
-    → chain-outcome further file links v n ≡ accepted tt → visits-from file links n ≡ visits-of file (numbers file links n)
+    → chain-outcome (record-tests further) file links v n ≡ accepted tt → visits-from file links n ≡ visits-of file (numbers file links n)
 unfolding visits-from numbers visits-of
-visits-from-accepted further file zero v n h = absurd (chain-some further file v n h)
-visits-from-accepted further file (suc links) v n h = go (linked further file links v n h) (λ v n h. visits-from-accepted further file links v n h)
+visits-from-accepted further file zero v n h = absurd (chain-some (record-tests further) file v n h)
+visits-from-accepted further file (suc links) v n h =
+    go (linked (record-tests further) file links v n h) (λ v n h. visits-from-accepted further file links v n h)
   where
-    go : (n ≡ 0) ⊎ Linked further file links v n →
-        ((v : ℕ → Bool) (n : ℕ) → chain-outcome further file links v n ≡ accepted tt
+    go : (n ≡ 0) ⊎ Linked (record-tests further) file links v n →
+        ((v : ℕ → Bool) (n : ℕ) → chain-outcome (record-tests further) file links v n ≡ accepted tt
         → visits-from file links n ≡ visits-of file (numbers file links n))
         → visits-from file (suc links) n ≡ visits-of file (numbers file (suc links) n)
     go (inl e) more = simp (listable-zero file n e, eq-eqb n 0 e)
-    go (inr l) more = simp (listable-region file n (l .some) (l .link .here) ∙ l .link .sound .inside, ne-eqb n 0 (l .some), more _ _ (l .rest))
+    go (inr l) more =
+        let inside = listable-region file n (l .some) (l .link .here) ∙ sound further (planned file n) (l .link .own) .inside in
+        simp (inside, ne-eqb n 0 (l .some), more _ _ (l .rest))

@@ -17,9 +17,9 @@ use Rattle.stage.specs.declared.regions.Position.{Position}
 use Rattle.region_file.specs.declared.records.Record.{Record}
 use Rattle.region_file.specs.Records.{record-at, first-record, most-records}
 use Rattle.region_file.specs.Chain.{numbers, member, on-chain}
-use Rattle.region_file.specs.Judge.{nowhere, also, chain-outcome, judge-outcome}
-use Rattle.region_file.proofs.Chain.{Linked, linked, chain-some, judged-chain}
-use Rattle.region_file.proofs.Numbers.{member-visited, member-sound}
+use Rattle.region_file.specs.Judge.{record-tests, nowhere, also, chain-outcome, judge-outcome}
+use Rattle.region_file.proofs.Chain.{sound, Linked, linked, chain-some, judged-chain}
+use Rattle.region_file.proofs.Numbers.{member-visited, member-passes}
 use Rattle.visits.specs.declared.file_walks.FileVisit.{FileVisit}
 use Rattle.visits.specs.Visits.{planned, position-of, file-visit, record-visits, visits-of, file-visits}
 use Rattle.visits.specs.Theorem.{Among, VisitOf, visits-at}
@@ -81,7 +81,7 @@ module _ (n i : ℕ) where
 also-itself : (k n : ℕ) (v : ℕ → Bool) → k ≡ n → also k v n ≡ true
 also-itself k n v e = simp (eq-eqb n k (sym e))
 
-module _ (further : Record → List Test) (file : List ℕ) (n i : ℕ) where
+module _ (tests : Record → List Test) (file : List ℕ) (n i : ℕ) where
   -- the visit where it is one of the file's, and else none
   abbrev wanted : Bool → List FileVisit
   wanted on = cond (on && ltb i (planned file n .count)) (file-visit n (planned file n) i ∷ []) []
@@ -126,25 +126,25 @@ module _ (further : Record → List Test) (file : List ℕ) (n i : ℕ) where
           ap (λ (vs : List FileVisit). vs ++ visits-at n i (visits-of file others))
           (visits-at-other n i k (planned file k) 0 (planned file k .count) (eqb-false k n e)) ∙ after
 
-  chain-once : (links : ℕ) (v : ℕ → Bool) (k : ℕ) → chain-outcome further file links v k ≡ accepted tt → Once links k
+  chain-once : (links : ℕ) (v : ℕ → Bool) (k : ℕ) → chain-outcome tests file links v k ≡ accepted tt → Once links k
   unfolding numbers
-  chain-once zero v k h = absurd (chain-some further file v k h)
-  chain-once (suc links) v k h = go (linked further file links v k h) (chain-once links)
+  chain-once zero v k h = absurd (chain-some tests file v k h)
+  chain-once (suc links) v k h = go (linked tests file links v k h) (chain-once links)
     where
-      go : (k ≡ 0) ⊎ Linked further file links v k → ((v : ℕ → Bool) (k : ℕ) → chain-outcome further file links v k ≡ accepted tt → Once links k)
+      go : (k ≡ 0) ⊎ Linked tests file links v k → ((v : ℕ → Bool) (k : ℕ) → chain-outcome tests file links v k ≡ accepted tt → Once links k)
           → Once (suc links) k
       go (inl e) more = simp (eq-eqb k 0 e) none-once
       go (inr l) more =
           let next = record-at file k .next in
           simp (ne-eqb k 0 (l .some))
           (cons-once k (numbers file links next) (more (also k v) next (l .rest))
-          (λ e. member-visited further file n links (also k v) next (l .rest) (also-itself k n v e)))
+          (λ e. member-visited tests file n links (also k v) next (l .rest) (also-itself k n v e)))
 
 pub once : (further : Record → List Test) (file : List ℕ) → judge-outcome further file ≡ accepted tt
     → (n i : ℕ) → visits-at n i (file-visits file)
     ≡ cond (on-chain file n && ltb i (planned file n .count)) (file-visit n (planned file n) i ∷ []) []
 unfolding file-visits
-once further file e n i = chain-once further file n i most-records nowhere (first-record file) (judged-chain further file e)
+once further file e n i = chain-once (record-tests further) file n i most-records nowhere (first-record file) (judged-chain further file e)
 
 -- ---- one visit
 
@@ -193,11 +193,12 @@ module _ (further : Record → List Test) (file : List ℕ) (e : judge-outcome f
       go : (b : Bool) → (on-chain file (v .number) && ltb (v .index) (owned .count)) ≡ b → Among v (cond b (itself ∷ []) []) → VisitOf file v
       go true t (inl same) =
           let p = both-hold (on-chain file (v .number)) (ltb (v .index) (owned .count)) t in
-          let sound = member-sound further file (v .number) most-records nowhere (first-record file) (judged-chain further file e) (p .0) in
+          let own = sound further owned
+          (member-passes (record-tests further) file (v .number) most-records nowhere (first-record file) (judged-chain further file e) (p .0)) in
           record {
             chained = p .0;
             counted = ltb-true (v .index) (owned .count) (p .1);
-            placed = first-passes (accepted (position-of owned (v .index))) 10 [] (ap not (sound .inside)) ∙ first-none _
+            placed = first-passes (accepted (position-of owned (v .index))) 10 [] (ap not (own .inside)) ∙ first-none _
                 ∙ ap (λ (u : FileVisit). accepted (record { x = u .x; y = u .y })) (sym same);
           }
       go true t (inr m) = absurd m

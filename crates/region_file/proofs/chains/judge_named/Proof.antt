@@ -9,7 +9,7 @@ use denote.Ref.{now}
 use lib.Dec.{leb}
 use Rattle.refusal.proofs.First.{first-refuses, first-passes}
 use Rattle.region_file.specs.Records.{record-count}
-use Rattle.region_file.specs.Judge.{no-further-tests, record-outcome}
+use Rattle.region_file.specs.Judge.{listing-tests, record-outcome}
 use Rattle.region_file.proofs.chains.judge_named.Statement.{statement}
 use Rattle.region_file.proofs.chains.judge_named.Tie as tie
 
@@ -35,7 +35,7 @@ judge-record-requires c κs = search needs
 returns-3 : tie.Need-returns-3
 returns-3 c =
     c .judge-record .ensures
-    ∙ ap (record-outcome no-further-tests) (c .before .record-at .ensures)
+    ∙ ap (record-outcome listing-tests) (c .before .record-at .ensures)
     ∙ sym (first-passes _ 13 _ (here (c .before .before .before)) ∙ first-passes _ 14 _ (c .before .before .if2 .left))
 
 pub judge-named-spec : {M : Type 1} → statement M
