@@ -1,7 +1,7 @@
 -- Laws of the ordered tests: how the first of them decides; of what is granted, and of what comes after. Assumes nothing.
 use mathlib.Core.Path.{_≡_, refl, sym, ap, _∙_}
 use mathlib.Core.Bool.{Bool, true, false}
-use mathlib.Core.List.{List, [], _∷_}
+use mathlib.Core.List.{List, [], _∷_, _++_}
 use Prim.Native.Nat.{ℕ}
 use native.Mathlib.Omega.{arith}
 use Rattle.refusal.specs.Outcome.{Outcome, accepted, refused, Test, first, granted, then}
@@ -33,6 +33,15 @@ accepted-refused e = let z : _≡_ {A = ℕ} 0 1 = ap accepted-or-not e in omega
 pub accepted-same : {A : Type 0} {a b : A} → accepted a ≡ accepted b → a ≡ b
 accepted-same e = cc
 
+-- the number of a refusal is one number
+number-of : {A : Type 0} → Outcome A → ℕ
+number-of (accepted a) = 0
+number-of (refused n vs) = n
+
+pub refused-same : {A : Type 0} {m n : ℕ} {vs ws : List ℕ} → _≡_ {A = Outcome A} (refused m vs) (refused n ws) → m ≡ n
+unfolding number-of
+refused-same e = ap number-of e
+
 -- what is accepted has passed each test
 module _ {A : Type 0} (after : Outcome A) (n : ℕ) (ts : List Test) {b : A} where
   pub first-accepted : (holds : Bool) → first (record { number = n; holds = holds } ∷ ts) after ≡ accepted b
@@ -40,6 +49,14 @@ module _ {A : Type 0} (after : Outcome A) (n : ℕ) (ts : List Test) {b : A} whe
   unfolding first
   first-accepted true e = absurd (accepted-refused (sym e))
   first-accepted false e = (refl, e)
+
+-- what is refused under one number has passed the tests of other numbers before
+module _ {A : Type 0} (after : Outcome A) (n : ℕ) (ts : List Test) {k : ℕ} {vs : List ℕ} where
+  pub first-other : (n ≡ k → ⊥) → (holds : Bool) → first (record { number = n; holds = holds } ∷ ts) after ≡ refused k vs
+      → (holds ≡ false) × (first ts after ≡ refused k vs)
+  unfolding first
+  first-other ne true e = absurd (ne (refused-same e))
+  first-other ne false e = (refl, e)
 
 -- every test of a list
 abbrev pub AllPass : List Test → Type 0
@@ -88,6 +105,18 @@ module _ {A B : Type 0} (a : A) (after : Outcome B) (n : ℕ) (ts : List Test) (
       → first (record { number = n; holds = holds } ∷ ts) after ≡ refused k vs
   unfolding first
   alone-refuses e = refused-before a (first ts after) (record { number = n; holds = holds } ∷ []) e
+
+-- tests before others: what comes after the first ones is what the others come to
+pub first-append : {A : Type 0} (ts us : List Test) (after : Outcome A) → first (ts ++ us) after ≡ first ts (first us after)
+unfolding first
+first-append [] us after = refl
+first-append {A = A} (t ∷ ts) us after = go (t .holds) (first-append ts us after)
+  where
+    go : (b : Bool) → first (ts ++ us) after ≡ first ts (first us after)
+        → _≡_ {A = Outcome A} (elim b [ true ↦ refused (t .number) [] | false ↦ first (ts ++ us) after ])
+        (elim b [ true ↦ refused (t .number) [] | false ↦ first ts (first us after) ])
+    go true e = refl
+    go false e = e
 
 module _ {A B : Type 0} {o : Outcome A} (one other : B) where
   pub granted-accepted : {a : A} → o ≡ accepted a → granted o one other ≡ one

@@ -24,6 +24,7 @@ number variant.ReservedBytes = 12
 number variant.MissingRecord = 13
 number variant.ChainReturns = 14
 number variant.VisitCount = 15
+number variant.Field = 16
 
 -- what a refusal gives besides its number: 3 the shape (m, a) and j
 abbrev pub values : Refusal → List ℕ
@@ -42,6 +43,7 @@ values variant.ReservedBytes = []
 values variant.MissingRecord = []
 values variant.ChainReturns = []
 values variant.VisitCount = []
+values variant.Field = []
 
 -- the outcome of a refused call
 abbrev pub of-refusal : {A : Type 0} → Refusal → Outcome A

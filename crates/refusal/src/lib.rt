@@ -34,6 +34,8 @@ pub enum Refusal {
     ChainReturns,
     // 15: too many visits of one record.
     VisitCount,
+    // 16: the reader's field is wider or higher than a region.
+    Field,
 }
 
 impl Refusal {
@@ -57,6 +59,7 @@ impl Refusal {
             Refusal::MissingRecord => 13,
             Refusal::ChainReturns => 14,
             Refusal::VisitCount => 15,
+            Refusal::Field => 16,
         }
     }
 }

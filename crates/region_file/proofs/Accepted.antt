@@ -16,7 +16,7 @@ use Rattle.refusal.proofs.First.{AllPass, all-pass}
 use Rattle.region_file.specs.declared.records.Record.{Record}
 use Rattle.region_file.specs.Records.{record-at, first-record, record-count, most-records}
 use Rattle.region_file.specs.Chain.{numbers, chain-numbers}
-use Rattle.region_file.specs.Judge.{head-tests, record-tests, nowhere, also, chain-outcome, judge-outcome}
+use Rattle.region_file.specs.Judge.{head-tests, loader-tests, nowhere, also, chain-outcome, judge-outcome}
 use Rattle.region_file.proofs.Marks.{marked, free, free-fresh, fresh-at, marked-fresh, free-set, free-some, marked-set, unmarked}
 use Rattle.region_file.proofs.Chain.{Linked, linked, chain-some, whole-few, judged-chain}
 
@@ -25,7 +25,7 @@ pub few-records : (further : Record → List Test) (file : List ℕ) → judge-o
 unfolding judge-outcome
 few-records further file e =
     whole-few (length file)
-    (not-false _ (all-pass (chain-outcome (record-tests further) file most-records nowhere (first-record file)) (head-tests file) e .0 .0))
+    (not-false _ (all-pass (chain-outcome (loader-tests further file) file most-records nowhere (first-record file)) (head-tests file) e .0 .0))
 
 -- ---- its chain
 
@@ -70,14 +70,14 @@ module _ (tests : Record → List Test) (file : List ℕ) where
           simp (ne-eqb n 0 (p .some)) (omega (arith, rest, o))
 
 module _ (further : Record → List Test) (file : List ℕ) (e : judge-outcome further file ≡ accepted tt) where
-  pub numbers-good : Each (Good (record-tests further) file) (chain-numbers file)
-  numbers-good = chain-good (record-tests further) file most-records nowhere (first-record file) (judged-chain further file e)
+  pub numbers-good : Each (Good (loader-tests further file) file) (chain-numbers file)
+  numbers-good = chain-good (loader-tests further file) file most-records nowhere (first-record file) (judged-chain further file e)
 
   pub numbers-few : length (chain-numbers file) ≤ 2047
   numbers-few =
       let ms : List ℕ = replicate most-records 0 in
-      let h = ap (λ (v : ℕ → Bool). chain-outcome (record-tests further) file most-records v (first-record file)) (marked-fresh most-records)
+      let h = ap (λ (v : ℕ → Bool). chain-outcome (loader-tests further file) file most-records v (first-record file)) (marked-fresh most-records)
       ∙ judged-chain further file e in
-      let less = chain-free (record-tests further) file (few-records further file e) most-records ms (first-record file)
+      let less = chain-free (loader-tests further file) file (few-records further file e) most-records ms (first-record file)
       (length-replicate {A = ℕ} most-records 0) (fresh-at most-records 0) h in
       omega (arith, free-fresh most-records, less)

@@ -13,7 +13,8 @@ use lib.Dec.{eqb}
 use Rattle.ranges.proofs.Tests.{both-hold}
 use Rattle.refusal.specs.Outcome.{Outcome, accepted, refused, Test, first}
 use Rattle.refusal.proofs.First.{accepted-refused, AllPass, all-pass, refused-before, passed-before}
-use Rattle.stage.specs.Region.{within}
+use Rattle.stage.specs.declared.regions.Field.{Field}
+use Rattle.stage.specs.Region.{within, takes}
 use Rattle.region_file.specs.declared.records.Record.{Record}
 use Rattle.region_file.specs.Records.{record-bytes, most-bytes, record-at, first-record, record-count, most-records}
 use Rattle.region_file.specs.Judge.{
@@ -21,6 +22,7 @@ use Rattle.region_file.specs.Judge.{
   head-tests,
   most-visits,
   record-tests,
+  loader-tests,
   link-tests,
   link-outcome,
   nowhere,
@@ -29,14 +31,20 @@ use Rattle.region_file.specs.Judge.{
   judge-outcome,
 }
 
--- what a record has that passes the tests of the listing and further ones
-pub record Sound (further : Record → List Test) (r : Record) : Type 0 where
+-- what a record has that passes the tests of the listing and further ones, with the reader's field f
+pub record Sound (further : Record → List Test) (f : Field) (r : Record) : Type 0 where
   pub inside : within (r .region) ≡ true
+  pub taken : takes f (r .region) ≡ true
   pub few : r .count ≤ most-visits
   pub others : AllPass (further r)
 
-pub sound : (further : Record → List Test) (r : Record) → AllPass (record-tests further r) → Sound further r
-sound further r p = record { inside = not-false _ (p .0); few = ltb-false most-visits (r .count) (p .1 .0); others = p .1 .1 }
+pub sound : (further : Record → List Test) (f : Field) (r : Record) → AllPass (record-tests further f r) → Sound further f r
+sound further f r p = record {
+  inside = not-false _ (p .0);
+  taken = not-false _ (p .1 .0);
+  few = ltb-false most-visits (r .count) (p .1 .1 .0);
+  others = p .1 .1 .1;
+}
 
 -- what a link has that passes its tests
 pub record Passed (tests : Record → List Test) (file : List ℕ) (seen : Bool) (n : ℕ) : Type 0 where
@@ -111,6 +119,6 @@ whole-few bytes e = let m = whole-has bytes e .most in omega (arith, m)
 
 -- the chain of an accepted file is accepted
 pub judged-chain : (further : Record → List Test) (file : List ℕ) → judge-outcome further file ≡ accepted tt
-    → chain-outcome (record-tests further) file most-records nowhere (first-record file) ≡ accepted tt
+    → chain-outcome (loader-tests further file) file most-records nowhere (first-record file) ≡ accepted tt
 unfolding judge-outcome
-judged-chain further file e = all-pass (chain-outcome (record-tests further) file most-records nowhere (first-record file)) (head-tests file) e .1
+judged-chain further file e = all-pass (chain-outcome (loader-tests further file) file most-records nowhere (first-record file)) (head-tests file) e .1

@@ -8,5 +8,7 @@ pub mod Stops
 pub mod OnChain
 pub mod Accepted
 pub mod Further
+pub mod Field
+pub mod Base
 pub mod Theorem
 pub mod Examples

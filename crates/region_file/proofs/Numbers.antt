@@ -16,7 +16,7 @@ use Rattle.refusal.proofs.First.{AllPass}
 use Rattle.region_file.specs.declared.records.Record.{Record}
 use Rattle.region_file.specs.Records.{record-at, first-record, most-records}
 use Rattle.region_file.specs.Chain.{numbers, member}
-use Rattle.region_file.specs.Judge.{record-tests, nowhere, also, chain-outcome}
+use Rattle.region_file.specs.Judge.{loader-tests, nowhere, also, chain-outcome}
 use Rattle.region_file.specs.Theorem.{WholeChain}
 use Rattle.region_file.proofs.Chain.{Linked, linked, chain-some, judged-chain}
 
@@ -115,4 +115,4 @@ pub whole-chain : WholeChain
 whole-chain further file links e h =
     let k : links ≡ most-records + (links - most-records) = omega arith in
     ap (λ (m : ℕ). numbers file m (first-record file)) k
-    ∙ numbers-enough (record-tests further) file most-records (links - most-records) nowhere (first-record file) (judged-chain further file e)
+    ∙ numbers-enough (loader-tests further file) file most-records (links - most-records) nowhere (first-record file) (judged-chain further file e)

@@ -7,9 +7,10 @@ use Prim.Native.Nat.{ℕ, zero, suc, _/_}
 use borrow.Author.Tests.{eqb-false}
 use lib.Dec.{eqb}
 use Rattle.refusal.specs.Outcome.{accepted, Test, first}
+use Rattle.stage.specs.declared.regions.Field.{Field}
 use Rattle.region_file.specs.declared.records.Record.{Record}
 use Rattle.region_file.specs.Records.{record-bytes, record-at, first-record, record-count, most-records}
-use Rattle.region_file.specs.Judge.{also, record-tests, link-tests, head-tests, nowhere, chain-outcome, judge-outcome}
+use Rattle.region_file.specs.Judge.{also, record-tests, loader-tests, link-tests, head-tests, nowhere, chain-outcome, judge-outcome}
 use Rattle.region_file.specs.Theorem.{SameOnChain, OnlyTheChain}
 
 module _ (tests : Record → List Test) (file other : List ℕ) (On : ℕ → Type 0) (same : SameOnChain file other On) where
@@ -38,6 +39,7 @@ pub only-the-chain : OnlyTheChain
 unfolding judge-outcome
 only-the-chain further file other On same =
     let heads : head-tests file ≡ head-tests other = cc in
-    ap (λ (ts : List Test). first ts (chain-outcome (record-tests further) file most-records nowhere (first-record file))) heads
-    ∙ ap (first (head-tests other)) (chains (record-tests further) file other On same most-records nowhere (first-record file) (same .begins)
-    ∙ ap (chain-outcome (record-tests further) other most-records nowhere) (same .firsts))
+    ap (λ (ts : List Test). first ts (chain-outcome (loader-tests further file) file most-records nowhere (first-record file))) heads
+    ∙ ap (first (head-tests other)) (chains (loader-tests further file) file other On same most-records nowhere (first-record file) (same .begins)
+    ∙ ap (λ (f : Field). chain-outcome (record-tests further f) other most-records nowhere (first-record file)) (same .fields)
+    ∙ ap (chain-outcome (loader-tests further other) other most-records nowhere) (same .firsts))

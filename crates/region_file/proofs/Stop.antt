@@ -3,8 +3,7 @@
 use mathlib.Core.Path.{_≡_, refl}
 use mathlib.Core.Bool.{Bool}
 use mathlib.Core.List.{List}
-use Prim.Native.Nat.{ℕ, zero, suc, _<_}
-use native.Mathlib.Nat.{lt-irrefl}
+use Prim.Native.Nat.{ℕ, zero, suc}
 use borrow.Author.Tests.{eq-eqb, ne-eqb}
 use Rattle.refusal.specs.Outcome.{accepted, refused, Test}
 use Rattle.refusal.proofs.First.{granted-accepted, granted-refused, refused-before, passed-before}
@@ -14,7 +13,7 @@ use Rattle.region_file.specs.Records.{first-record, most-records}
 use Rattle.region_file.specs.Chain.{first-link, link-in, no-link}
 use Rattle.region_file.specs.Judge.{
   head-tests,
-  record-tests,
+  loader-tests,
   head-outcome,
   link-outcome,
   nowhere,
@@ -50,16 +49,16 @@ module _ (further : Record → List Test) (file : List ℕ) where
       → (judge-outcome further file ≡ refused k vs) × (judge-stop further file ≡ no-link)
   unfolding judge-outcome judge-stop
   head-refused e = (
-    refused-before tt (chain-outcome (record-tests further) file most-records nowhere (first-record file)) (head-tests file) e,
-    granted-refused (chain-stop (record-tests further) file most-records nowhere (first-link file)) no-link e,
+    refused-before tt (chain-outcome (loader-tests further file) file most-records nowhere (first-record file)) (head-tests file) e,
+    granted-refused (chain-stop (loader-tests further file) file most-records nowhere (first-link file)) no-link e,
   )
 
   -- record 0 passes: both are those of the chain
   pub head-passed : head-outcome file ≡ accepted tt
-      → (judge-outcome further file ≡ chain-outcome (record-tests further) file most-records nowhere (first-record file))
-      × (judge-stop further file ≡ chain-stop (record-tests further) file most-records nowhere (first-link file))
+      → (judge-outcome further file ≡ chain-outcome (loader-tests further file) file most-records nowhere (first-record file))
+      × (judge-stop further file ≡ chain-stop (loader-tests further file) file most-records nowhere (first-link file))
   unfolding judge-outcome judge-stop
   head-passed e = (
-    passed-before tt (chain-outcome (record-tests further) file most-records nowhere (first-record file)) (head-tests file) e,
-    granted-accepted (chain-stop (record-tests further) file most-records nowhere (first-link file)) no-link e,
+    passed-before tt (chain-outcome (loader-tests further file) file most-records nowhere (first-record file)) (head-tests file) e,
+    granted-accepted (chain-stop (loader-tests further file) file most-records nowhere (first-link file)) no-link e,
   )

@@ -17,7 +17,7 @@ use Rattle.refusal.proofs.First.{accepted-refused, AllPass, all-pass}
 use Rattle.region_file.specs.declared.records.Record.{Record}
 use Rattle.region_file.specs.Records.{record-count, most-records}
 use Rattle.region_file.specs.Chain.{link-at}
-use Rattle.region_file.specs.Judge.{head-tests, record-tests, head-outcome, link-outcome, also, chain-outcome, chain-stop}
+use Rattle.region_file.specs.Judge.{head-tests, loader-tests, head-outcome, link-outcome, also, chain-outcome, chain-stop}
 use Rattle.region_file.specs.Theorem.{named-before, outcome-at, StopsAt, Stops}
 use Rattle.region_file.proofs.Chain.{passed, chain-end, chain-refused, chain-next, whole-few}
 use Rattle.region_file.proofs.Marks.{marked, free, free-fresh, fresh-at, marked-fresh, free-set, free-some, marked-set, unmarked}
@@ -118,7 +118,7 @@ stops-at further file h =
     let few = whole-few (length file) (not-false _ (heads .0)) in
     let ms : List ℕ = replicate most-records 0 in
     let fresh : free ms ≡ most-records = free-fresh most-records in
-    let r = from (record-tests further) file few most-records 0 ms (length-replicate {A = ℕ} most-records 0) (fresh-at most-records 0) (omega arith)
+    let r = from (loader-tests further file) file few most-records 0 ms (length-replicate {A = ℕ} most-records 0) (fresh-at most-records 0) (omega arith)
     (marked-fresh most-records) (λ i less. absurd (not-suc-le-zero less)) in
     let s = r .1 in
     let judged = head-passed further file h in

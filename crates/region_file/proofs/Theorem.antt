@@ -6,6 +6,8 @@ use Rattle.region_file.proofs.Ends.{chains-end}
 use Rattle.region_file.proofs.Stops.{stops}
 use Rattle.region_file.proofs.OnChain.{only-the-chain}
 use Rattle.region_file.proofs.Further.{further-tests}
+use Rattle.region_file.proofs.Field.{sixteen-at, no-records}
+use Rattle.region_file.proofs.Base.{as-before}
 
 pub theorems : Theorems
 theorems = record {
@@ -13,5 +15,8 @@ theorems = record {
   whole-chain = whole-chain;
   only-the-chain = only-the-chain;
   further-tests = further-tests;
+  sixteen-at = sixteen-at;
+  no-records = no-records;
+  as-before = as-before;
   stops = stops;
 }

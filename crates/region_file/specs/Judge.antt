@@ -1,15 +1,26 @@
 -- What the judgement of a region file comes to: tests of the file and its record 0, and then of each link of the chain.
 use mathlib.Core.Bool.{Bool, false, cond, not, _&&_, _||_}
-use mathlib.Core.List.{List, [], _∷_}
+use mathlib.Core.List.{List, [], _∷_, _++_}
 use Prim.Native.Nat.{ℕ, zero, suc, _%_}
 use lib.Dec.{eqb, leb, ltb}
 use lib.ListN.{length}
 use Rattle.refusal.specs.Outcome.{Outcome, accepted, refused, Test, first, granted}
 use Rattle.plan.specs.Pair.{unknown-level}
-use Rattle.stage.specs.Region.{outside}
+use Rattle.stage.specs.declared.regions.Field.{Field}
+use Rattle.stage.specs.Region.{position-tests}
 use Rattle.region_file.specs.declared.records.Record.{Record}
 use Rattle.region_file.specs.declared.chains.Link.{Link}
-use Rattle.region_file.specs.Records.{record-bytes, record-at, first-record, file-level, reserved-zero, record-count, most-bytes, most-records}
+use Rattle.region_file.specs.Records.{
+  record-bytes,
+  record-at,
+  first-record,
+  file-level,
+  reader-field,
+  reserved-zero,
+  record-count,
+  most-bytes,
+  most-records,
+}
 use Rattle.region_file.specs.Chain.{first-link, link-in, no-link}
 
 -- not empty, not longer than the longest file, and whole records
@@ -49,15 +60,19 @@ too-many r = record { number = 15; holds = ltb most-visits (r .count) }
 abbrev pub no-further-tests : Record → List Test
 no-further-tests r = []
 
--- the tests of a record by itself, in order
-abbrev pub record-tests : (Record → List Test) → Record → List Test
-record-tests further r = outside (r .region) ∷ too-many r ∷ further r
+-- the tests of a record by itself, in order: 10 and 16 of its region with the reader's field, 15, and the further ones
+abbrev pub record-tests : (Record → List Test) → Field → Record → List Test
+record-tests further f r = position-tests f (r .region) ++ (too-many r ∷ further r)
 
--- those that the listing makes
-abbrev pub listing-tests : Record → List Test
-listing-tests = record-tests no-further-tests
+-- those that a loader makes of the records of a file: the field is the file's
+abbrev pub loader-tests : (Record → List Test) → List ℕ → Record → List Test
+loader-tests further file = record-tests further (reader-field file)
 
--- The chain of a file is judged by any list of tests of a record, `tests`; those of the listing and of other loaders are `record-tests`.
+-- and those that the listing makes
+abbrev pub listing-tests : List ℕ → Record → List Test
+listing-tests = loader-tests no-further-tests
+
+-- The chain of a file is judged by any list of tests of a record, `tests`; those of the listing and of other loaders are `loader-tests`.
 
 -- the tests of a link that names record n, in order. `seen`: an earlier link named it.
 abbrev pub link-tests : (Record → List Test) → List ℕ → Bool → ℕ → List Test
@@ -91,7 +106,7 @@ chain-outcome tests file (suc links) visited n =
 
 -- the judgement of the whole file
 unfoldable pub judge-outcome : (Record → List Test) → List ℕ → Outcome Unit
-judge-outcome further file = first (head-tests file) (chain-outcome (record-tests further) file most-records nowhere (first-record file))
+judge-outcome further file = first (head-tests file) (chain-outcome (loader-tests further file) file most-records nowhere (first-record file))
 
 -- ---- where it stops
 
@@ -106,4 +121,4 @@ chain-stop tests file (suc links) visited at =
 -- that of the whole file: none where the tests of the file and its record 0 refuse it
 unfoldable pub judge-stop : (Record → List Test) → List ℕ → Link
 judge-stop further file =
-    granted (head-outcome file) (chain-stop (record-tests further) file most-records nowhere (first-link file)) no-link
+    granted (head-outcome file) (chain-stop (loader-tests further file) file most-records nowhere (first-link file)) no-link

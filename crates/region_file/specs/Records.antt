@@ -5,6 +5,7 @@ use Prim.Native.Nat.{ℕ, zero, suc, _+_, _*_, _/_, _^_}
 use lib.Dec.{eqb}
 use lib.ListN.{length, getD}
 use Rattle.signed.specs.Words.{cast-signed}
+use Rattle.stage.specs.declared.regions.Field.{Field}
 use Rattle.region_file.specs.declared.records.Record.{Record}
 
 -- the bytes of a word
@@ -46,18 +47,22 @@ first-record file = record-word file 0 0
 abbrev pub file-level : List ℕ → ℕ
 file-level file = record-word file 0 1
 
+-- the reader's field (C-12): its width and height, the third and the fourth word of record 0
+unfoldable pub reader-field : List ℕ → Field
+reader-field file = record { width = record-word file 0 2; height = record-word file 0 3 }
+
 -- n bytes are zero, the first of which is byte `at`
 unfoldable pub zeros : List ℕ → ℕ → ℕ → Bool
 zeros file at zero = true
 zeros file at (suc n) = eqb (getD file at 0) 0 && zeros file (at + 1) n
 
--- the first of the reserved bytes of record 0, which stand behind its two words
+-- the first of the reserved bytes of record 0, which stand behind its four words
 abbrev pub reserved-start : ℕ
-reserved-start = 8
+reserved-start = 16
 
--- their number: bytes 8 to 31
+-- their number: bytes 16 to 31
 abbrev pub reserved-bytes : ℕ
-reserved-bytes = 24
+reserved-bytes = 16
 
 -- they are all zero
 abbrev pub reserved-zero : List ℕ → Bool

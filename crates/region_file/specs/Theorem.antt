@@ -1,22 +1,26 @@
 -- What users rely on: every chain ends within the number of links that its judgement looks at, nothing off the chain is looked at, a loader
--- with further tests accepts the files of the listing whose records pass them, and a judgement stops at the first link that does not pass.
+-- with further tests accepts the files of the listing whose records pass them, and a judgement stops at the first link that does not pass;
+-- exactly which links are refused for the reader's field, and that files without one are judged as 01 has it.
 -- All this holds for every list of tests of a record, or of further tests.
 use mathlib.Core.Path.{_≡_}
-use mathlib.Core.Bool.{Bool, true, cond}
-use mathlib.Core.List.{List}
-use mathlib.Core.Logic.{_↔_}
+use mathlib.Core.Bool.{Bool, true, false, cond}
+use mathlib.Core.List.{List, []}
+use mathlib.Core.Logic.{_⊎_, _↔_}
 use Prim.Native.Nat.{ℕ, zero, suc, _≤_, _<_}
 use lib.Dec.{eqb}
 use lib.ListN.{length}
 use Rattle.refusal.specs.Outcome.{Outcome, accepted, refused, Test}
+use Rattle.stage.specs.Field.{field-extent}
+use Rattle.stage.specs.Region.{within}
 use Rattle.region_file.specs.declared.records.Record.{Record}
-use Rattle.region_file.specs.Records.{record-at, first-record, file-level, reserved-zero, most-records}
+use Rattle.region_file.specs.Records.{record-at, first-record, file-level, reader-field, zeros, reserved-zero, record-count, most-records}
 use Rattle.region_file.specs.Chain.{numbers, chain-numbers, on-chain, no-link, link-at}
 use Rattle.region_file.specs.Judge.{
   whole,
   head-outcome,
   no-further-tests,
-  record-tests,
+  loader-tests,
+  listing-tests,
   record-outcome,
   link-outcome,
   nowhere,
@@ -25,6 +29,7 @@ use Rattle.region_file.specs.Judge.{
   judge-outcome,
   judge-stop,
 }
+use Rattle.region_file.specs.Base.{base-judge-outcome, base-judge-stop}
 
 -- a chain of a whole file is judged the same, however many links from most-records on the judgement looks at
 abbrev pub ChainsEnd : Type 0
@@ -40,6 +45,7 @@ WholeChain = (further : Record → List Test) (file : List ℕ) (links : ℕ) �
 pub record SameOnChain (file other : List ℕ) (On : ℕ → Type 0) : Type 0 where
   pub bytes : length file ≡ length other
   pub levels : file-level file ≡ file-level other
+  pub fields : reader-field file ≡ reader-field other
   pub reserved : reserved-zero file ≡ reserved-zero other
   pub firsts : first-record file ≡ first-record other
   pub begins : On (first-record file)
@@ -72,18 +78,43 @@ outcome-at tests file k =
 -- the judgement of a file stops at link k: it is the first that ends the chain or is refused, and what it comes to is the judgement
 pub record StopsAt (further : Record → List Test) (file : List ℕ) (k : ℕ) : Type 0 where
   pub stop : judge-stop further file ≡ link-at file k
-  pub decides : judge-outcome further file ≡ outcome-at (record-tests further) file k
-  pub ends : outcome-at (record-tests further) file k ≡ accepted tt → link-at file k .named ≡ 0
-  pub earlier : (i : ℕ) → i < k → (link-at file i .named ≡ 0 → ⊥) × (outcome-at (record-tests further) file i ≡ accepted tt)
+  pub decides : judge-outcome further file ≡ outcome-at (loader-tests further file) file k
+  pub ends : outcome-at (loader-tests further file) file k ≡ accepted tt → link-at file k .named ≡ 0
+  pub earlier : (i : ℕ) → i < k → (link-at file i .named ≡ 0 → ⊥) × (outcome-at (loader-tests further file) file i ≡ accepted tt)
 
 -- the judgement of a file whose record 0 passes stops at some link; that of another stops at none
 pub record Stops (further : Record → List Test) (file : List ℕ) : Type 0 where
   pub at-link : head-outcome file ≡ accepted tt → (k : ℕ) × StopsAt further file k
   pub at-none : (number : ℕ) (values : List ℕ) → head-outcome file ≡ refused number values → judge-stop further file ≡ no-link
 
+-- ---- the reader's field
+
+-- a link is refused under 16 exactly where the file has the record that it names, no earlier link named it, its region is within the limits, and
+-- the field is larger than the region on an axis
+abbrev pub SixteenAt : Type 0
+SixteenAt = (file : List ℕ) (seen : Bool) (n : ℕ)
+    → let r = record-at file n .region in
+    let f = reader-field file in
+    (link-outcome (listing-tests file) file seen n ≡ refused 16 [])
+    ↔ ((n < record-count file) × (seen ≡ false) × (within r ≡ true)
+    × ((r .width < field-extent (f .width)) ⊎ (r .height < field-extent (f .height))))
+
+-- a chain without records is accepted whatever the field is
+abbrev pub NoRecords : Type 0
+NoRecords = (further : Record → List Test) (file : List ℕ) → head-outcome file ≡ accepted tt → first-record file ≡ 0
+    → judge-outcome further file ≡ accepted tt
+
+-- a file whose bytes 8 to 15 are zero is judged as 01 has it, and its judgement stops at the same link
+abbrev pub AsBefore : Type 0
+AsBefore = (file : List ℕ) → zeros file 8 8 ≡ true
+    → (judge-outcome no-further-tests file ≡ base-judge-outcome file) × (judge-stop no-further-tests file ≡ base-judge-stop file)
+
 pub record Theorems : Type 1 where
   pub chains-end : ChainsEnd
   pub whole-chain : WholeChain
   pub only-the-chain : OnlyTheChain
   pub further-tests : FurtherTests
+  pub sixteen-at : SixteenAt
+  pub no-records : NoRecords
+  pub as-before : AsBefore
   pub stops : (further : Record → List Test) (file : List ℕ) → Stops further file

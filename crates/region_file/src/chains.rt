@@ -2,10 +2,12 @@
 use crate::records::MOST_RECORDS;
 use crate::records::Record;
 use crate::records::first_record;
+use crate::records::reader_field;
 use crate::records::record_at;
 use crate::records::record_count;
 use refusal::Judgement;
 use refusal::Refusal;
+use stage::Field;
 ghost use mathlib.Core.Path.{_≡_};
 ghost use mathlib.Core.Bool.{not};
 ghost use Prim.Native.Nat.{_≤_};
@@ -14,7 +16,16 @@ ghost use lib.ListN.{getD};
 ghost use Rattle.refusal.specs.Refusal.{of-judgement};
 ghost use Rattle.region_file.specs.Records.{first-record, record-count, most-records};
 ghost use Rattle.region_file.specs.Chain.{on-chain, first-link};
-ghost use Rattle.region_file.specs.Judge.{listing-tests, record-outcome, link-outcome, chain-outcome, nowhere, chain-stop};
+ghost use Rattle.region_file.specs.Judge.{
+  no-further-tests,
+  record-tests,
+  listing-tests,
+  record-outcome,
+  link-outcome,
+  chain-outcome,
+  nowhere,
+  chain-stop,
+};
 
 // The largest count of visits that a record may have.
 const MOST_VISITS: u32 = 4096;
@@ -32,13 +43,14 @@ pub struct Judged {
     pub link: Link,
 }
 
-// The tests of a record by itself, 10 and 15. A loader that makes further tests makes them here, after 15.
-fn judge_record(named: Record) -> Judgement
-    ensures { λ r. ⌜ of-judgement r ≡ record-outcome listing-tests named ⌝ }
+// The tests of a record by itself with the reader's field: 10, 16 and 15. A loader that makes further tests makes them here, after 15.
+fn judge_record(named: Record, field: Field) -> Judgement
+    ensures { λ r. ⌜ of-judgement r ≡ record-outcome (record-tests no-further-tests field) named ⌝ }
 {
     let region = named.region;
-    if !region.within() {
-        return Judgement::Refused(Refusal::Region);
+    let judged = region.judge(field);
+    if let Judgement::Refused(why) = judged {
+        return Judgement::Refused(why);
     }
     if MOST_VISITS < named.count {
         return Judgement::Refused(Refusal::VisitCount);
@@ -48,7 +60,7 @@ fn judge_record(named: Record) -> Judgement
 
 // The tests of a link that names record n: 13, 14, and then those of the record. `seen`: an earlier link named it.
 fn judge_named(file: &[u8], n: u32, seen: bool) -> Judgement
-    ensures { λ r. ⌜ of-judgement r ≡ link-outcome listing-tests (now (file .entry)) seen n ⌝ }
+    ensures { λ r. ⌜ of-judgement r ≡ link-outcome (listing-tests (now (file .entry))) (now (file .entry)) seen n ⌝ }
 {
     if record_count(file) <= n as usize {
         return Judgement::Refused(Refusal::MissingRecord);
@@ -56,7 +68,7 @@ fn judge_named(file: &[u8], n: u32, seen: bool) -> Judgement
     if seen {
         return Judgement::Refused(Refusal::ChainReturns);
     }
-    judge_record(record_at(file, n))
+    judge_record(record_at(file, n), reader_field(file))
 }
 
 // Whether the mark `at` is set. Past the end of the marks none is.
@@ -73,9 +85,10 @@ fn is_marked(marks: &[u8], at: usize) -> bool
 // that passes sets a mark that was not set.
 pub(crate) fn judge_chain(file: &[u8]) -> Judged
     requires { ⌜ record-count (now file) ≤ most-records ⌝ }
-    ensures judgement { λ r. ⌜
-        of-judgement (r .judgement) ≡ chain-outcome listing-tests (now (file .entry)) most-records nowhere (first-record (now (file .entry))) ⌝ }
-    ensures link { λ r. ⌜ r .link ≡ chain-stop listing-tests (now (file .entry)) most-records nowhere (first-link (now (file .entry))) ⌝ }
+    ensures judgement { λ r. ⌜ of-judgement (r .judgement)
+        ≡ chain-outcome (listing-tests (now (file .entry))) (now (file .entry)) most-records nowhere (first-record (now (file .entry))) ⌝ }
+    ensures link { λ r. ⌜ r .link
+        ≡ chain-stop (listing-tests (now (file .entry))) (now (file .entry)) most-records nowhere (first-link (now (file .entry))) ⌝ }
 {
     let mut marks = [0u8; MOST_RECORDS as usize];
     let mut holder = 0;

@@ -18,11 +18,11 @@ ghost use Rattle.region_file.specs.Judge.{whole, no-further-tests, judge
 // The bytes of the longest file.
 const MOST_BYTES: usize = 65536;
 
-// The first reserved byte of record 0. The two words of record 0 stand before it.
-const RESERVED_START: usize = 8;
+// The first reserved byte of record 0. The four words of record 0 stand before it.
+const RESERVED_START: usize = 16;
 
 // The number of reserved bytes.
-const RESERVED_BYTES: usize = 24;
+const RESERVED_BYTES: usize = 16;
 
 // Whether `count` bytes are zero, the first of which is byte `start`.
 fn zeros(file: &[u8], start: usize, count: usize) -> bool
@@ -69,7 +69,7 @@ fn is_whole(length: usize) -> bool
     length % RECORD_BYTES == 0
 }
 
-// The judgement of any bytes as the listing makes it, 11, 2, 12, then at each link 13, 14, 10, 15; and the link at which it stopped.
+// The judgement of any bytes as the listing makes it, 11, 2, 12, then at each link 13, 14, 10, 16, 15; and the link at which it stopped.
 pub fn judge_link(file: &[u8]) -> Judged
     ensures judgement { λ r. ⌜ of-judgement (r .judgement) ≡ judge-outcome no-further-tests (now (file .entry)) ⌝ }
     ensures link { λ r. ⌜ r .link ≡ judge-stop no-further-tests (now (file .entry)) ⌝ }

@@ -11,5 +11,6 @@ pub use judging::judge_link;
 pub use records::MOST_RECORDS;
 pub use records::Record;
 pub use records::first_record;
+pub use records::reader_field;
 pub use records::record_at;
 pub use records::record_count;

@@ -1,11 +1,12 @@
 // The records of a file, word by word. Bytes past its end count as 0, so every number names a record.
 use plan::Shift;
 use signed::cast_signed;
+use stage::Field;
 use stage::Region;
 ghost use mathlib.Core.Path.{_≡_};
 ghost use Prim.Native.Nat.{_<_};
 ghost use lib.ListN.{getD};
-ghost use Rattle.region_file.specs.Records.{record-word, record-at, first-record, record-count};
+ghost use Rattle.region_file.specs.Records.{record-word, record-at, first-record, reader-field, record-count};
 
 // The bytes of a record.
 pub(crate) const RECORD_BYTES: usize = 32;
@@ -86,6 +87,16 @@ pub fn first_record(file: &[u8]) -> u32
     ensures { λ r. ⌜ r ≡ first-record (now (file .entry)) ⌝ }
 {
     record_word(file, 0, 0)
+}
+
+// The reader's field, words 2 and 3 of record 0.
+pub fn reader_field(file: &[u8]) -> Field
+    ensures { λ r. ⌜ r ≡ reader-field (now (file .entry)) ⌝ }
+{
+    Field {
+        width: record_word(file, 0, 2),
+        height: record_word(file, 0, 3),
+    }
 }
 
 // The number of whole records that the bytes hold, record 0 included.

@@ -1,3 +1,4 @@
 pub mod Sums
 pub mod Limits
+pub mod Fit
 pub mod Theorem

@@ -3,7 +3,7 @@
 use mathlib.Core.Path.{_≡_, sym, ap, _∙_}
 use mathlib.Core.Bool.{Bool, true, not}
 use Prim.Native.Nat.{ℕ, _≤_, _<_}
-use borrow.Author.Tests.{ltb-false, not-true}
+use borrow.Author.Tests.{ltb-false, le-ltb, not-true}
 use lib.Dec.{ltb}
 use lib.IntN.{ℤ}
 use mir.Syntax.{w32}
@@ -56,3 +56,14 @@ within-has r e =
       some-height = extent-some (r .height) (first .1);
       height = extent-most (r .height) (first .1);
     }
+
+extent-is : (x : ℕ) → 0 < x → x ≤ largest-extent → extent-within x ≡ true
+extent-is x some most = simp (le-ltb x 1 some, le-ltb largest-extent x most)
+
+-- and back
+pub within-from : (r : Region) → Within r → within r ≡ true
+unfolding within
+within-from r w =
+    let wide = extent-is (r .width) (w .some-width) (w .width) in
+    let high = extent-is (r .height) (w .some-height) (w .height) in
+    simp (w .left, w .top, wide, high)

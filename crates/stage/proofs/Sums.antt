@@ -8,7 +8,7 @@ use native.Mathlib.Omega.{arith}
 use borrow.Author.Tests.{ltb-true, ltb-false}
 use lib.Dec.{T, ltb, nltb→le, le→leb, lt→ltb, lit<}
 use lib.Pow.{pow-add, pow-pos}
-use lib.IntN.{ℤ, pos, negsuc, _+ℤ_}
+use lib.IntN.{ℤ, pos, negsuc, _+ℤ_, +ℤ-assoc}
 use lib.Signed.{mag, ltZ, leZ, _≤ℤ_, _<ℤ_, leZ-yes, ltZ-yes}
 use lib.Ieee.Fits.{and-l}
 use mir.Syntax.{w32}
@@ -70,6 +70,15 @@ plus-lt-plus (negsuc a) m n h = ltZ-yes (go (ltb m (suc a)) (ltb n (suc a)) refl
     go true false p q = tt
     go false true p q = absurd (omega (arith, h, ltb-false m (suc a) p, ltb-true n (suc a) q))
     go false false p q = lt→ltb (m - suc a) (n - suc a) (omega (arith, h, ltb-false m (suc a) p))
+
+-- e + m + k ≤ e + n where m + k ≤ n
+pub plus-le-plus : (e : ℤ) (m k n : ℕ) → m + k ≤ n → ((e +ℤ pos m) +ℤ pos k) ≤ℤ (e +ℤ pos n)
+plus-le-plus e m k n h =
+    let rest : m + k + (n - (m + k)) ≡ n = omega arith in
+    let left : (e +ℤ pos (m + k)) ≡ ((e +ℤ pos m) +ℤ pos k) = sym (+ℤ-assoc e (pos m) (pos k)) in
+    let right : ((e +ℤ pos (m + k)) +ℤ pos (n - (m + k))) ≡ (e +ℤ pos n) =
+    +ℤ-assoc e (pos (m + k)) (pos (n - (m + k))) ∙ ap (λ (j : ℕ). e +ℤ pos j) rest in
+    subst (λ (z : ℤ). z ≤ℤ (e +ℤ pos n)) left (subst (λ (z : ℤ). (e +ℤ pos (m + k)) ≤ℤ z) right (le-plus (e +ℤ pos (m + k)) (n - (m + k))))
 
 -- a test of a signed number, from the test of what is read back from its bits
 pub read-back : (f : ℤ → Bool) (b : Bool) (e : ℤ) → SFits w32 e → f (toZ w32 (ofZ w32 e)) ≡ b → f e ≡ b

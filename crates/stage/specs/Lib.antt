@@ -1,3 +1,4 @@
 pub mod Position
+pub mod Field
 pub mod Region
 pub mod Theorem

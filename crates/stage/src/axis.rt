@@ -1,8 +1,9 @@
-// One axis of a region: the limits of its edge and its extent, and the position of a coordinate on it.
+// One axis of a region: the limits of its edge and its extent, the reader's field along it, and the position of a coordinate on it.
 ghost use mathlib.Core.Path.{_≡_};
 ghost use mathlib.Core.Bool.{true};
 ghost use Prim.Native.Nat.{_≤_};
 ghost use Rattle.stage.specs.Position.{edge-within, extent-within, offset, position, largest-extent};
+ghost use Rattle.stage.specs.Field.{field-extent, fits-in, span};
 
 // An edge lies between these two, in µm.
 const SMALLEST_EDGE: i32 = -1000000;
@@ -39,6 +40,35 @@ pub(crate) fn extent_within(extent: u32) -> bool
         return false;
     }
     true
+}
+
+// How far a field reaches along the axis: 0 counts as 1.
+fn field_extent(word: u32) -> u32
+    ensures { λ r. ⌜ r ≡ field-extent word ⌝ }
+{
+    if word == 0 {
+        return 1;
+    }
+    word
+}
+
+// Whether a field is no larger than the extent.
+pub(crate) fn fits_in(extent: u32, word: u32) -> bool
+    ensures { λ r. ⌜ r ≡ fits-in extent word ⌝ }
+{
+    field_extent(word) <= extent
+}
+
+// The number of places that the corner of a field may take: none where the field is larger than the extent. The comparison comes before
+// the difference, which would wrap.
+pub(crate) fn span(extent: u32, word: u32) -> u32
+    ensures { λ r. ⌜ r ≡ span extent word ⌝ }
+{
+    let size = field_extent(word);
+    if extent < size {
+        return 0;
+    }
+    extent - size + 1
 }
 
 // The distance of a coordinate from the edge. The product of two words fits in 64 bits. Both numbers are unsigned, so the division

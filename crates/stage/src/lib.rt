@@ -1,7 +1,8 @@
-// The stage: regions with their limits, and the positions of visits in them, in µm.
+// The stage: regions with their limits, the reader's field in them, and the positions of visits, in µm.
 mod axis;
 mod regions;
 
+pub use regions::Field;
 pub use regions::Placed;
 pub use regions::Position;
 pub use regions::Region;

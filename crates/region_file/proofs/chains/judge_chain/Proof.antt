@@ -30,24 +30,24 @@ from holder n = record { holder = holder; named = n }
 abbrev Inv-loop : tie.InvT-loop
 Inv-loop file marks₀ holder₀ n₀ marks holder n =
     (length marks ≡ most-records) × (getD marks 0 0 ≡ 0) × (holder < 2 ^ 32) × (n < 2 ^ 32)
-    × (chain-outcome listing-tests file (free marks) (marked marks) n
-    ≡ chain-outcome listing-tests file most-records nowhere (first-record file))
-    × (chain-stop listing-tests file (free marks) (marked marks) (from holder n)
-    ≡ chain-stop listing-tests file most-records nowhere (first-link file))
+    × (chain-outcome (listing-tests file) file (free marks) (marked marks) n
+    ≡ chain-outcome (listing-tests file) file most-records nowhere (first-record file))
+    × (chain-stop (listing-tests file) file (free marks) (marked marks) (from holder n)
+    ≡ chain-stop (listing-tests file) file most-records nowhere (first-link file))
 
 abbrev μ-loop : tie.MeasureT-loop
 μ-loop file marks₀ holder₀ n₀ marks holder n = free marks
 
 -- a link that passes names an unmarked record of the file
 record Taken (file ms : List ℕ) (n : ℕ) : Type 0 where
-  pub passes : link-outcome listing-tests file (marked ms n) n ≡ accepted tt
+  pub passes : link-outcome (listing-tests file) file (marked ms n) n ≡ accepted tt
   pub here : n < length ms
   pub clear : getD ms n 0 ≡ 0
 
 taken : (file ms : List ℕ) (n : ℕ) → record-count file ≤ most-records → length ms ≡ most-records
-    → link-outcome listing-tests file (marked ms n) n ≡ accepted tt → Taken file ms n
+    → link-outcome (listing-tests file) file (marked ms n) n ≡ accepted tt → Taken file ms n
 taken file ms n few l h =
-    let p = passed listing-tests file (marked ms n) n h .0 in
+    let p = passed (listing-tests file) file (marked ms n) n h .0 in
     let o = p .here in
     record { passes = h; here = omega (arith, o); clear = unmarked ms n (p .fresh) }
 
@@ -61,12 +61,12 @@ loop-holds c =
       fresh-at most-records 0,
       search needs,
       search needs,
-      ap₂ (λ (f : ℕ) (m : ℕ → Bool). chain-outcome listing-tests (now (a .file)) f m (c .first-record .result))
+      ap₂ (λ (f : ℕ) (m : ℕ → Bool). chain-outcome (listing-tests (now (a .file))) (now (a .file)) f m (c .first-record .result))
           (free-fresh most-records) (marked-fresh most-records)
-          ∙ ap (chain-outcome listing-tests (now (a .file)) most-records nowhere) (c .first-record .ensures),
-      ap₂ (λ (f : ℕ) (m : ℕ → Bool). chain-stop listing-tests (now (a .file)) f m (from 0 (c .first-record .result)))
+          ∙ ap (chain-outcome (listing-tests (now (a .file))) (now (a .file)) most-records nowhere) (c .first-record .ensures),
+      ap₂ (λ (f : ℕ) (m : ℕ → Bool). chain-stop (listing-tests (now (a .file))) (now (a .file)) f m (from 0 (c .first-record .result)))
           (free-fresh most-records) (marked-fresh most-records)
-          ∙ ap (λ (n : ℕ). chain-stop listing-tests (now (a .file)) most-records nowhere (from 0 n)) (c .first-record .ensures),
+          ∙ ap (λ (n : ℕ). chain-stop (listing-tests (now (a .file))) (now (a .file)) most-records nowhere (from 0 n)) (c .first-record .ensures),
     )
 
 cast-at : tie.Need-cast-at Inv-loop μ-loop
@@ -86,15 +86,14 @@ enum-known-judged c = search needs
 
 -- what the tests of the link come to, by the marks
 link-judged : (c : tie.After-judge-named Inv-loop μ-loop)
-    → link-outcome listing-tests
-    (now (c .before .before .before .before .before .before .before .args .file))
+    → link-outcome (listing-tests (now (c .before .before .before .before .before .before .before .args .file))) (now (c .before .before .before .before .before .before .before .args .file))
     (marked (c .before .before .before .before .loop .marks) (c .before .before .before .before .loop .n))
     (c .before .before .before .before .loop .n)
     ≡ of-judgement (c .judge-named .result)
 unfolding marked
 link-judged c =
     let a = c .before .before .before .before .before .before .before .args in
-    sym (c .judge-named .ensures ∙ ap (λ (x : Bool). link-outcome listing-tests (now (a .file)) x (c .before .before .before .before .loop .n))
+    sym (c .judge-named .ensures ∙ ap (λ (x : Bool). link-outcome (listing-tests (now (a .file))) (now (a .file)) x (c .before .before .before .before .loop .n))
     (c .before .is-marked .ensures))
 
 returns : tie.Need-returns Inv-loop μ-loop
@@ -103,10 +102,10 @@ returns c =
     let i = c .before .before .before .before .before .before .before .loop in
     let ne = c .before .before .before .before .before .before .loop-test .taken in
     let refuses = link-judged (c .before .before .before) ∙ ap of-judgement (c .before .judged .given .1) in (
-      sym (chain-refused listing-tests (now (a .file)) (marked (i .marks)) (i .n) ne (free (i .marks))
+      sym (chain-refused (listing-tests (now (a .file))) (now (a .file)) (marked (i .marks)) (i .n) ne (free (i .marks))
           (free-some (i .marks) (i .inv .0) (i .inv .1)) refuses)
           ∙ i .inv .4,
-      sym (stop-refused listing-tests (now (a .file)) (marked (i .marks)) (from (i .holder) (i .n)) (free (i .marks)) ne refuses) ∙ i .inv .5,
+      sym (stop-refused (listing-tests (now (a .file))) (now (a .file)) (marked (i .marks)) (from (i .holder) (i .n)) (free (i .marks)) ne refuses) ∙ i .inv .5,
     )
 
 enum-told : tie.Need-enum-told Inv-loop μ-loop
@@ -145,16 +144,16 @@ loop-again c =
       getD-set-other (i .marks) (i .n) 0 1 0 q ∙ i .inv .1,
       search needs,
       search needs,
-      ap₂ (λ (m : ℕ → Bool) (k : ℕ). chain-outcome listing-tests (now (a .file)) (free left) m k) (marked-set (i .marks) (i .n) (t .here))
+      ap₂ (λ (m : ℕ → Bool) (k : ℕ). chain-outcome (listing-tests (now (a .file))) (now (a .file)) (free left) m k) (marked-set (i .marks) (i .n) (t .here))
           (ap (λ (x : Record). x .next) (c .record-at .ensures))
-          ∙ sym (chain-next listing-tests (now (a .file)) v (i .n) ne (free left) (t .passes))
-          ∙ ap (λ (f : ℕ). chain-outcome listing-tests (now (a .file)) f v (i .n)) (sym (free-set (i .marks) (i .n) (t .here) (t .clear)))
+          ∙ sym (chain-next (listing-tests (now (a .file))) (now (a .file)) v (i .n) ne (free left) (t .passes))
+          ∙ ap (λ (f : ℕ). chain-outcome (listing-tests (now (a .file))) (now (a .file)) f v (i .n)) (sym (free-set (i .marks) (i .n) (t .here) (t .clear)))
           ∙ i .inv .4,
-      ap₂ (λ (m : ℕ → Bool) (k : ℕ). chain-stop listing-tests (now (a .file)) (free left) m (from (i .n) k))
+      ap₂ (λ (m : ℕ → Bool) (k : ℕ). chain-stop (listing-tests (now (a .file))) (now (a .file)) (free left) m (from (i .n) k))
           (marked-set (i .marks) (i .n) (t .here))
           (ap (λ (x : Record). x .next) (c .record-at .ensures))
-          ∙ sym (stop-next listing-tests (now (a .file)) v (from (i .holder) (i .n)) (free left) ne (t .passes))
-          ∙ ap (λ (f : ℕ). chain-stop listing-tests (now (a .file)) f v (from (i .holder) (i .n)))
+          ∙ sym (stop-next (listing-tests (now (a .file))) (now (a .file)) v (from (i .holder) (i .n)) (free left) ne (t .passes))
+          ∙ ap (λ (f : ℕ). chain-stop (listing-tests (now (a .file))) (now (a .file)) f v (from (i .holder) (i .n)))
           (sym (free-set (i .marks) (i .n) (t .here) (t .clear)))
           ∙ i .inv .5,
     )
@@ -163,10 +162,10 @@ returns-2 : tie.Need-returns-2 Inv-loop μ-loop
 returns-2 c =
     let a = c .before .before .before .before .args in
     let i = c .before .loop in (
-      sym (chain-end listing-tests (now (a .file)) (free (i .marks)) (free-some (i .marks) (i .inv .0) (i .inv .1)) (marked (i .marks)) (i .n)
+      sym (chain-end (listing-tests (now (a .file))) (now (a .file)) (free (i .marks)) (free-some (i .marks) (i .inv .0) (i .inv .1)) (marked (i .marks)) (i .n)
           (c .loop-test .left))
           ∙ i .inv .4,
-      sym (stop-end listing-tests (now (a .file)) (marked (i .marks)) (from (i .holder) (i .n)) (free (i .marks)) (c .loop-test .left))
+      sym (stop-end (listing-tests (now (a .file))) (now (a .file)) (marked (i .marks)) (from (i .holder) (i .n)) (free (i .marks)) (c .loop-test .left))
           ∙ i .inv .5,
     )
 

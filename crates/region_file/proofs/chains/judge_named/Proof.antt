@@ -1,6 +1,6 @@
 -- `chains::judge_named`: 13 and 14 have their own returns; after them the tests of the record decide.
 -- Assumes nothing.
-use mathlib.Core.Path.{_≡_, sym, ap, _∙_, subst}
+use mathlib.Core.Path.{_≡_, sym, ap₂, _∙_, subst}
 use mathlib.Core.Bool.{false}
 use Prim.Native.Nat.{ℕ, _≤_, _<_}
 use borrow.Author.Needs.{needs}
@@ -8,8 +8,10 @@ use borrow.Author.Tests.{le-leb, lt-leb}
 use denote.Ref.{now}
 use lib.Dec.{leb}
 use Rattle.refusal.proofs.First.{first-refuses, first-passes}
+use Rattle.stage.specs.declared.regions.Field.{Field}
+use Rattle.region_file.specs.declared.records.Record.{Record}
 use Rattle.region_file.specs.Records.{record-count}
-use Rattle.region_file.specs.Judge.{listing-tests, record-outcome}
+use Rattle.region_file.specs.Judge.{no-further-tests, record-tests, record-outcome}
 use Rattle.region_file.proofs.chains.judge_named.Statement.{statement}
 use Rattle.region_file.proofs.chains.judge_named.Tie as tie
 
@@ -29,14 +31,18 @@ returns-2 c = sym (first-passes _ 13 _ (here (c .before)) ∙ first-refuses _ 14
 record-at-requires : tie.Need-record-at-requires
 record-at-requires c κs = search needs
 
+reader-field-requires : tie.Need-reader-field-requires
+reader-field-requires c κs = search needs
+
 judge-record-requires : tie.Need-judge-record-requires
 judge-record-requires c κs = search needs
 
 returns-3 : tie.Need-returns-3
 returns-3 c =
     c .judge-record .ensures
-    ∙ ap (record-outcome listing-tests) (c .before .record-at .ensures)
-    ∙ sym (first-passes _ 13 _ (here (c .before .before .before)) ∙ first-passes _ 14 _ (c .before .before .if2 .left))
+    ∙ ap₂ (λ (r : Record) (f : Field). record-outcome (record-tests no-further-tests f) r) (c .before .before .record-at .ensures)
+    (c .before .reader-field .ensures)
+    ∙ sym (first-passes _ 13 _ (here (c .before .before .before .before)) ∙ first-passes _ 14 _ (c .before .before .before .if2 .left))
 
 pub judge-named-spec : {M : Type 1} → statement M
 judge-named-spec =
@@ -46,5 +52,6 @@ judge-named-spec =
     returns
     returns-2
     record-at-requires
+    reader-field-requires
     judge-record-requires
     returns-3)

@@ -8,11 +8,10 @@ use borrow.Author.Tests.{not-false}
 use borrow.Author.Needs.{needs}
 use denote.Ref.{now}
 use lib.ListN.{length}
-use Rattle.refusal.specs.Outcome.{accepted, refused}
 use Rattle.refusal.proofs.First.{first-none, first-refuses, first-passes}
 use Rattle.plan.specs.Pair.{unknown-level}
 use Rattle.region_file.specs.Records.{file-level}
-use Rattle.region_file.specs.Judge.{no-further-tests, head-outcome}
+use Rattle.region_file.specs.Judge.{no-further-tests}
 use Rattle.region_file.specs.Judge.{whole as is-whole}
 use Rattle.region_file.proofs.Chain.{Whole, whole-has, whole-few}
 use Rattle.region_file.proofs.Stop.{head-refused, head-passed}

@@ -1,55 +1,58 @@
--- `Region::position`: a region that passes the test meets what `axis::position` requires on both axes.
+-- `Region::position`: a region that passes both tests has places for the corner, and these are a region within the limits.
 -- Assumes nothing.
-use mathlib.Core.Path.{sym, ap, ap₂, _∙_}
+use mathlib.Core.Path.{_≡_, sym, ap, _∙_}
 use mathlib.Core.Bool.{not}
 use mathlib.Core.List.{[]}
-use native.Mathlib.Omega.{arith}
-use borrow.Author.Tests.{not-false}
 use borrow.Author.Needs.{needs}
-use lib.IntN.{ℤ}
-use Rattle.refusal.specs.Outcome.{accepted}
-use Rattle.refusal.proofs.First.{first-none, first-refuses, first-passes}
-use Rattle.stage.specs.declared.regions.Position.{Position}
-use Rattle.stage.specs.Region.{within}
-use Rattle.stage.proofs.Limits.{Within, within-has, edge-read, position-told}
+use Rattle.refusal.specs.Outcome.{accepted, first}
+use Rattle.refusal.specs.Refusal.{of-judgement}
+use Rattle.refusal.proofs.First.{first-none, first-passes, refused-before}
+use Rattle.stage.specs.declared.regions.Region.{Region}
+use Rattle.stage.specs.Region.{position-tests, corner-outcome}
+use Rattle.stage.proofs.Fit.{corners-within, both-pass, pass-both}
 use Rattle.stage.proofs.regions.Region.position.Statement.{statement}
 use Rattle.stage.proofs.regions.Region.position.Tie as tie
 
-within-requires : tie.Need-within-requires
-within-requires c κs = search needs
+judge-requires : tie.Need-judge-requires
+judge-requires c κs = search needs
+
+enum-known-judged : tie.Need-enum-known-judged
+enum-known-judged c = search needs
+
+enum-told : tie.Need-enum-told
+enum-told c = search needs
+
+corners-requires : tie.Need-corners-requires
+corners-requires c κs = search needs
+
+corner-requires : tie.Need-corner-requires
+corner-requires c κs = search needs
+
+-- what the tests come to is what the judgement says
+told : (c : tie.After-judge) → first (position-tests (c .before .args .field) (c .before .args .self)) (accepted tt) ≡ of-judgement (c .judge .result)
+told c = sym (c .judge .ensures)
 
 returns : tie.Need-returns
-returns c = sym (first-refuses _ 10 [] (sym (ap not (c .before .within .ensures)) ∙ c .if1 .taken))
-
--- the region is within its limits
-limits : (c : tie.After-struct-told) → Within (c .before .before .before .args .self)
-limits c = within-has _ (sym (c .before .before .within .ensures) ∙ not-false _ (c .before .if1 .left))
-
-abbrev of : ℤ → ℤ → Position
-of x y = record { x = x; y = y }
-
-position-requires : tie.Need-position-requires
-position-requires c κs =
-    let w = limits (c .before) in
-    (edge-read (c .before .before .before .before .args .self .left) (search needs) (w .left), omega (arith, w .width))
-
-position-requires-2 : tie.Need-position-requires-2
-position-requires-2 c κs =
-    let w = limits (c .before .before) in
-    (edge-read (c .before .before .before .before .before .args .self .top) (search needs) (w .top), omega (arith, w .width, w .height))
+returns c = sym (refused-before tt (accepted _) _ (told (c .before .before .before) ∙ ap of-judgement (c .before .judged .given .1)))
 
 returns-2 : tie.Need-returns-2
 returns-2 c =
-    let a = c .before .before .before .before .before .before .args in
-    let r = a .self in
-    let p = c .before .position in
-    let q = c .position2 in
-    sym
-    (first-passes _ 10 [] (sym (ap not (c .before .before .before .before .before .within .ensures)) ∙ c .before .before .before .before .if1 .left)
+    let a = c .before .before .before .before .before .args in
+    let p = both-pass (accepted tt) (a .field) (a .self) (told (c .before .before .before .before) ∙ ap of-judgement (c .before .before .enum-told .given .1)) in
+    c .corner .ensures
+    ∙ ap (λ (r : Region). corner-outcome r (a .x) (a .y)) (c .before .corners .ensures)
+    ∙ first-passes _ 10 [] (ap not (corners-within (a .field) (a .self) (p .0) (p .1)))
     ∙ first-none _
-    ∙ sym (ap₂ (λ (x y : ℤ). accepted (of x y)) (position-told (r .left) (r .width) (a .x) (search needs) (record { sfits = p .ok }) (p .ensures))
-    (position-told (r .top) (r .height) (a .y) (search needs) (record { sfits = q .ok }) (q .ensures))))
+    ∙ sym (pass-both _ (a .field) (a .self) (p .0) (p .1))
 
 pub position-spec : {M : Type 1} → statement M
 position-spec =
-    tie.close (tie.spec within-requires returns position-requires position-requires-2 returns-2)
+    tie.close
+    (tie.spec
+    judge-requires
+    enum-known-judged
+    enum-told
+    corners-requires
+    corner-requires
+    returns
+    returns-2)
