@@ -70,7 +70,7 @@ zero-byte file (suc n) at (suc k) h less =
     ∙ zero-byte file n (at + 1) k (both-hold (eqb (getD file at 0) 0) (zeros file (at + 1) n) h .1) (omega arith)
 
 -- and words of them are zero
-no-field : (file : List ℕ) → zeros file 8 8 ≡ true → reader-field file ≡ record { width = 0; height = 0 }
+pub no-field : (file : List ℕ) → zeros file 8 8 ≡ true → reader-field file ≡ record { width = 0; height = 0 }
 unfolding reader-field word-at
 no-field file h =
     let b : (k : ℕ) → k < 8 → getD file (8 + k) 0 ≡ 0 = λ k less. zero-byte file 8 8 k h less in

@@ -1,3 +1,4 @@
+pub mod Words
 pub mod Zeros
 pub mod Marks
 pub mod Chain

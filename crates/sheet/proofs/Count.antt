@@ -10,8 +10,9 @@ use Rattle.ranges.proofs.Range.{length-each}
 use Rattle.refusal.specs.Outcome.{Outcome, accepted, refused, then, Test}
 use Rattle.refusal.proofs.First.{accepted-refused, then-same}
 use Rattle.region_file.specs.declared.records.Record.{Record}
+use Rattle.region_file.specs.Records.{record-at, reader-field}
 use Rattle.region_file.specs.Chain.{chain-numbers}
-use Rattle.region_file.specs.Judge.{most-visits, record-tests, no-further-tests, judge-outcome}
+use Rattle.region_file.specs.Judge.{most-visits, loader-tests, no-further-tests, judge-outcome}
 use Rattle.region_file.proofs.Chain.{sound}
 use Rattle.region_file.proofs.Accepted.{Good, numbers-good, numbers-few}
 use Rattle.visits.specs.declared.file_walks.FileVisit.{FileVisit}
@@ -35,17 +36,17 @@ judged file vs e = (
 
 -- ---- its visits
 
-visits-few : (further : Record → List Test) (file ns : List ℕ) → Each (Good (record-tests further) file) ns
-    → length (visits-of file ns) ≤ length ns * most-visits
+visits-few : (further : Record → List Test) (file ns : List ℕ) → Each (Good (loader-tests further file) file) ns
+    → length (visits-of (planned file) ns) ≤ length ns * most-visits
 unfolding visits-of
 visits-few further file [] h = omega arith
 visits-few further file (n ∷ ns) h =
-    let few = sound further (planned file n) (h .0 .own) .few in
+    let few = sound further (reader-field file) (record-at file n) (h .0 .own) .few in
     let own = record-visits n (planned file n) 0 (planned file n .count) in
     omega (
       arith,
       few,
-      length-append own (visits-of file ns),
+      length-append own (visits-of (planned file) ns),
       length-each (file-visit n (planned file n)) 0 (planned file n .count),
       visits-few further file ns (h .1),
     )
@@ -58,4 +59,4 @@ pub accepted-pages : (further : Record → List Test) (file : List ℕ) → judg
 unfolding file-visits
 accepted-pages further file e =
     let ns = chain-numbers file in
-    pages-few (length (visits-of file ns)) (length ns) (visits-few further file ns (numbers-good further file e)) (numbers-few further file e)
+    pages-few (length (visits-of (planned file) ns)) (length ns) (visits-few further file ns (numbers-good further file e)) (numbers-few further file e)

@@ -1,15 +1,19 @@
 -- What users rely on: one term of `Theorems`.
 -- Assumes nothing.
 use mathlib.Core.Path.{_≡_, refl, sym, ap, _∙_}
+use mathlib.Core.Bool.{true}
 use mathlib.Core.List.{List, [], _∷_, _++_, map}
 use Prim.Native.Nat.{ℕ}
 use lib.ListN.{length, replicate}
 use Rattle.ranges.specs.Below.{Below}
 use Rattle.ranges.specs.Each.{Each}
 use Rattle.refusal.specs.Outcome.{Outcome, accepted, refused}
+use Rattle.region_file.specs.Records.{zeros}
 use Rattle.region_file.specs.Judge.{no-further-tests}
 use Rattle.visits.specs.declared.file_walks.FileVisit.{FileVisit}
 use Rattle.visits.specs.Visits.{visits-outcome}
+use Rattle.visits.specs.Base.{base-visits-outcome}
+use Rattle.visits.proofs.Theorem as visits
 use Rattle.text.specs.Ascii.{line-feed, blank}
 use Rattle.text.specs.Columns.{right}
 use Rattle.text.specs.Pieces.{join}
@@ -51,6 +55,10 @@ refusals : (file : List ℕ) (n : ℕ) (values : List ℕ) → visits-outcome fi
 unfolding sheet listing
 refusals file n values e = ap sheet-report e ∙ sym (ap report e)
 
+as-before : (file : List ℕ) → zeros file 8 8 ≡ true → sheet file ≡ sheet-report (base-visits-outcome file)
+unfolding sheet
+as-before file h = ap sheet-report (visits.theorems .as-before file h)
+
 heading-line : heading ≡ heading-bytes
 unfolding in-columns right
 heading-line = refl
@@ -66,6 +74,7 @@ theorems = record {
   number-line = page-number-back;
   sheets = sheets;
   refusals = refusals;
+  as-before = as-before;
   so-far = λ file c d ps e run. so-far (sheet-to-come file) longest-line c d ps run ∙ e;
   whole = λ file c d f ps room e run last h. whole (sheet-to-come file) longest-line c d f ps room run last h ∙ e;
 }

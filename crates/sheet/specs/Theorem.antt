@@ -1,6 +1,7 @@
 -- What users rely on: every line of a sheet has 27 columns, its pages are as many as its visits need and numbered from 1, read back by its
--- columns it is the listing, and its pieces, joined, are the sheet.
+-- columns it is the listing, and its pieces, joined, are the sheet; and files without a reader's field have the sheets that they had.
 use mathlib.Core.Path.{_≡_}
+use mathlib.Core.Bool.{true}
 use mathlib.Core.List.{List, [], _∷_, _++_}
 use Prim.Native.Nat.{ℕ, _+_, _-_, _*_, _≤_, _<_}
 use lib.IntN.{ℤ, pos, negsuc}
@@ -8,14 +9,16 @@ use lib.ListN.{length, take, drop, replicate}
 use Rattle.ranges.specs.Below.{Below}
 use Rattle.ranges.specs.Each.{Each}
 use Rattle.refusal.specs.Outcome.{accepted, refused}
+use Rattle.region_file.specs.Records.{zeros}
 use Rattle.visits.specs.declared.file_walks.FileVisit.{FileVisit}
 use Rattle.visits.specs.Visits.{visits-outcome}
+use Rattle.visits.specs.Base.{base-visits-outcome}
 use Rattle.text.specs.Ascii.{line-feed, blank}
 use Rattle.text.specs.Decimal.{decimal}
 use Rattle.text.specs.Pieces.{join, Pieces}
 use Rattle.listing.specs.Listing.{listing, longest-line}
 use Rattle.sheet.specs.declared.cursors.Cursor.{Cursor}
-use Rattle.sheet.specs.Sheet.{heading, blank-line, page-line, page-visits, page, page-count, sheet-lines, sheet}
+use Rattle.sheet.specs.Sheet.{heading, blank-line, page-line, page-visits, page, page-count, sheet-lines, sheet-report, sheet}
 use Rattle.sheet.specs.ReadBack.{text-at, read-back}
 use Rattle.sheet.specs.Cursor.{sheet-to-come, SheetPiece}
 
@@ -87,6 +90,8 @@ pub record Theorems : Type 0 where
   pub sheets : (file : List ℕ) (vs : List FileVisit) → Below 256 file → visits-outcome file ≡ accepted vs → SheetOf file vs
   -- and of every refused one
   pub refusals : (file : List ℕ) (n : ℕ) (values : List ℕ) → visits-outcome file ≡ refused n values → sheet file ≡ listing file
+  -- a file whose bytes 8 to 15 are zero: the sheet of the visits that it had by 01, or of its refusal
+  pub as-before : (file : List ℕ) → zeros file 8 8 ≡ true → sheet file ≡ sheet-report (base-visits-outcome file)
   -- at any time: the pieces so far and what is to come are the sheet, for every file and a cursor c that `open` gives
   pub so-far : (file : List ℕ) (c d : Cursor) (ps : List (List ℕ)) → sheet-to-come file c ≡ sheet file → SheetPieces file c ps d
       → join ps ++ sheet-to-come file d ≡ sheet file

@@ -2,7 +2,7 @@
 -- Assumes nothing.
 use mathlib.Core.Path.{_≡_, refl, sym, ap, ap₂, _∙_}
 use mathlib.Core.Bool.{Bool, true, false, not, _&&_, true≢false}
-use mathlib.Core.List.{[], _∷_}
+use mathlib.Core.List.{List, [], _∷_}
 use mathlib.Core.Logic.{_⊎_, inl, inr, _≢_}
 use Prim.Native.Nat.{ℕ, _≤_, _<_}
 use native.Mathlib.Omega.{arith}
@@ -10,8 +10,8 @@ use borrow.Author.Tests.{eq-eqb, ne-eqb, le-leb, leb-true, leb-false, not-false}
 use lib.Dec.{leb}
 use Rattle.ranges.proofs.Order.{eq-or-ne}
 use Rattle.ranges.proofs.Tests.{both-hold}
-use Rattle.refusal.specs.Outcome.{Outcome, accepted, first}
-use Rattle.refusal.proofs.First.{first-none, first-refuses, first-passes, all-pass}
+use Rattle.refusal.specs.Outcome.{Outcome, accepted, refused, first}
+use Rattle.refusal.proofs.First.{first-none, first-refuses, first-passes, accepted-refused, all-pass}
 use Rattle.stage.specs.declared.regions.Field.{Field}
 use Rattle.stage.specs.declared.regions.Region.{Region}
 use Rattle.stage.specs.Field.{field-extent, span}
@@ -130,6 +130,20 @@ both-pass after f r e =
 pub pass-both : {A : Type 0} (after : Outcome A) (f : Field) (r : Region) → within r ≡ true → takes f r ≡ true
     → first (position-tests f r) after ≡ after
 pass-both after f r i t = first-passes after 10 _ (ap not i) ∙ first-passes after 16 [] (ap not t) ∙ first-none after
+
+-- both tests as one
+pub judged-accepted : {A : Type 0} (a : A) {b : A} (f : Field) (r : Region) → first (position-tests f r) (accepted a) ≡ accepted b
+    → (within r && takes f r) ≡ true
+judged-accepted a f r e = let p = both-pass (accepted a) f r e in ap₂ (λ (s t : Bool). s && t) (p .0) (p .1)
+
+pub judged-refused : {A : Type 0} (a : A) (f : Field) (r : Region) {k : ℕ} {vs : List ℕ} → first (position-tests f r) (accepted a) ≡ refused k vs
+    → (within r && takes f r) ≡ false
+judged-refused a f r e = go (within r) refl (takes f r) refl
+  where
+    go : (s : Bool) → within r ≡ s → (t : Bool) → takes f r ≡ t → (within r && takes f r) ≡ false
+    go true i true k = absurd (accepted-refused (sym (pass-both (accepted a) f r i k) ∙ e))
+    go true i false k = ap₂ (λ (s t : Bool). s && t) i k
+    go false i t k = ap (λ (s : Bool). s && takes f r) i
 
 -- a field of 0 or 1 is never too large: the region's limits decide alone
 pub tests-least : {A : Type 0} (after : Outcome A) (f : Field) (r : Region) → f .width ≤ 1 → f .height ≤ 1

@@ -2,7 +2,7 @@
 -- file's, if it is accepted.
 -- Assumes nothing.
 use mathlib.Core.Path.{_≡_, refl, sym, ap, ap₂, _∙_}
-use mathlib.Core.Bool.{Bool, true, false, not, _&&_, true≢false}
+use mathlib.Core.Bool.{Bool, true, false, not, _&&_}
 use mathlib.Core.List.{List, [], _∷_, _++_, map}
 use mathlib.Core.Logic.{_⊎_, inl, inr}
 use Prim.Native.Nat.{ℕ, zero, suc, _+_, _-_, _≤_, _<_}
@@ -11,20 +11,22 @@ use native.Mathlib.Omega.{arith}
 use borrow.Author.Tests.{eq-eqb, ne-eqb, le-leb, lt-leb, not-false}
 use lib.Dec.{eqb, leb}
 use Rattle.ranges.specs.Range.{range}
+use Rattle.ranges.proofs.Tests.{both-hold}
 use Rattle.refusal.specs.Outcome.{accepted, refused, Test}
 use Rattle.refusal.proofs.First.{first-none, first-passes, first-accepted, accepted-refused, accepted-same}
 use Rattle.stage.specs.declared.regions.Position.{Position}
-use Rattle.stage.specs.Region.{within}
+use Rattle.stage.specs.Region.{within, takes}
+use Rattle.stage.proofs.Fit.{corners-within}
 use Rattle.region_file.specs.declared.records.Record.{Record}
-use Rattle.region_file.specs.Records.{record-count, most-records}
+use Rattle.region_file.specs.Records.{record-at, reader-field, record-count, most-records}
 use Rattle.region_file.specs.Chain.{numbers}
-use Rattle.region_file.specs.Judge.{record-tests, chain-outcome}
+use Rattle.region_file.specs.Judge.{loader-tests, chain-outcome}
 use Rattle.region_file.proofs.Chain.{sound, Linked, linked, chain-some}
 use Rattle.visits.specs.declared.file_walks.FileVisit.{FileVisit}
 use Rattle.visits.specs.declared.file_walks.FileWalk.{FileWalk}
-use Rattle.visits.specs.Visits.{planned, position-of, visit-position-outcome, file-visit, record-visits, visits-of}
+use Rattle.visits.specs.Visits.{planned, position-of, file-visit, record-visits, visits-of}
 use Rattle.visits.specs.FileWalk.{listable, visits-from, links-counted, visits-to-come, before-record, ended-walk}
-use Rattle.visits.specs.Stepping.{after-visit}
+use Rattle.visits.specs.Stepping.{planned-position-outcome, after-visit}
 
 -- the visits of a record, where there are some and where there are none
 record-visits-more : (n : ℕ) (r : Record) (i k : ℕ) → 0 < k → record-visits n r i k ≡ file-visit n r i ∷ record-visits n r (i + 1) (k - 1)
@@ -50,29 +52,32 @@ pub listable-past : (file : List ℕ) (n : ℕ) → (n ≡ 0 → ⊥) → record
 unfolding listable
 listable-past file n e h = simp (ne-eqb n 0 e, le-leb _ _ h)
 
-pub listable-region : (file : List ℕ) (n : ℕ) → (n ≡ 0 → ⊥) → n < record-count file → listable file n ≡ within (planned file n .region)
+pub listable-region : (file : List ℕ) (n : ℕ) → (n ≡ 0 → ⊥) → n < record-count file
+    → listable file n ≡ (within (record-at file n .region) && takes (reader-field file) (record-at file n .region))
 unfolding listable
 listable-region file n e h = simp (ne-eqb n 0 e, lt-leb _ _ h)
 
+-- the places of the corner are then a region within the limits
 listable-within : (file : List ℕ) (n : ℕ) → listable file n ≡ true → within (planned file n .region) ≡ true
 unfolding listable
-listable-within file n e = go (not (eqb n 0)) (not (leb (record-count file) n)) e
-  where
-    go : (a b : Bool) {d : Bool} → (a && (b && d)) ≡ true → d ≡ true
-    go true true e = e
-    go true false e = absurd (true≢false (sym e))
-    go false b e = absurd (true≢false (sym e))
+listable-within file n e =
+    let f = reader-field file in
+    let r = record-at file n .region in
+    let some = both-hold (not (eqb n 0)) _ e in
+    let here = both-hold (not (leb (record-count file) n)) _ (some .1) in
+    let both = both-hold (within r) (takes f r) (here .1) in
+    corners-within f r (both .0) (both .1)
 
 -- ---- a visit's position
 
-pub refused-outside : (r : Record) (i : ℕ) {k : ℕ} {vs : List ℕ} → visit-position-outcome r i ≡ refused k vs → within (r .region) ≡ false
+pub refused-outside : (r : Record) (i : ℕ) {k : ℕ} {vs : List ℕ} → planned-position-outcome r i ≡ refused k vs → within (r .region) ≡ false
 refused-outside r i e = go (within (r .region)) refl
   where
     go : (b : Bool) → within (r .region) ≡ b → within (r .region) ≡ false
     go false h = h
     go true h = absurd (accepted-refused (sym (first-passes (accepted (position-of r i)) 10 [] (ap not h) ∙ first-none _) ∙ e))
 
-pub accepted-inside : (r : Record) (i : ℕ) {p : Position} → visit-position-outcome r i ≡ accepted p
+pub accepted-inside : (r : Record) (i : ℕ) {p : Position} → planned-position-outcome r i ≡ accepted p
     → (within (r .region) ≡ true) × (position-of r i ≡ p)
 accepted-inside r i e =
     let h = first-accepted (accepted (position-of r i)) 10 [] (not (within (r .region))) e in
@@ -172,17 +177,18 @@ ended-comes file = before-comes file 0 0 ∙ visits-from-none file 0 0 (le-refl 
 -- ---- an accepted file
 
 pub visits-from-accepted : (further : Record → List Test) (file : List ℕ) (links : ℕ) (v : ℕ → Bool) (n : ℕ)
-    → chain-outcome (record-tests further) file links v n ≡ accepted tt → visits-from file links n ≡ visits-of file (numbers file links n)
+    → chain-outcome (loader-tests further file) file links v n ≡ accepted tt → visits-from file links n ≡ visits-of (planned file) (numbers file links n)
 unfolding visits-from numbers visits-of
-visits-from-accepted further file zero v n h = absurd (chain-some (record-tests further) file v n h)
+visits-from-accepted further file zero v n h = absurd (chain-some (loader-tests further file) file v n h)
 visits-from-accepted further file (suc links) v n h =
-    go (linked (record-tests further) file links v n h) (λ v n h. visits-from-accepted further file links v n h)
+    go (linked (loader-tests further file) file links v n h) (λ v n h. visits-from-accepted further file links v n h)
   where
-    go : (n ≡ 0) ⊎ Linked (record-tests further) file links v n →
-        ((v : ℕ → Bool) (n : ℕ) → chain-outcome (record-tests further) file links v n ≡ accepted tt
-        → visits-from file links n ≡ visits-of file (numbers file links n))
-        → visits-from file (suc links) n ≡ visits-of file (numbers file (suc links) n)
+    go : (n ≡ 0) ⊎ Linked (loader-tests further file) file links v n →
+        ((v : ℕ → Bool) (n : ℕ) → chain-outcome (loader-tests further file) file links v n ≡ accepted tt
+        → visits-from file links n ≡ visits-of (planned file) (numbers file links n))
+        → visits-from file (suc links) n ≡ visits-of (planned file) (numbers file (suc links) n)
     go (inl e) more = simp (listable-zero file n e, eq-eqb n 0 e)
     go (inr l) more =
-        let inside = listable-region file n (l .some) (l .link .here) ∙ sound further (planned file n) (l .link .own) .inside in
-        simp (inside, ne-eqb n 0 (l .some), more _ _ (l .rest))
+        let own = sound further (reader-field file) (record-at file n) (l .link .own) in
+        let listed = listable-region file n (l .some) (l .link .here) ∙ ap₂ (λ (a b : Bool). a && b) (own .inside) (own .taken) in
+        simp (listed, ne-eqb n 0 (l .some), more _ _ (l .rest))

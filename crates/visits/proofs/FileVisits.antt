@@ -2,7 +2,7 @@
 -- The chain names no record twice, and a record's visits have the indexes of a range.
 -- Assumes nothing.
 use mathlib.Core.Path.{_≡_, refl, sym, ap, ap₂, _∙_, subst}
-use mathlib.Core.Bool.{Bool, true, false, cond, not, _&&_, _||_}
+use mathlib.Core.Bool.{Bool, true, false, cond, _&&_, _||_}
 use mathlib.Core.List.{List, [], _∷_, _++_, append-nil}
 use mathlib.Core.Logic.{_⊎_, inl, inr, _↔_}
 use Prim.Native.Nat.{ℕ, zero, suc, _+_, _≤_, _<_}
@@ -12,18 +12,18 @@ use lib.Dec.{eqb, ltb}
 use Rattle.ranges.specs.Range.{range}
 use Rattle.ranges.proofs.Tests.{both-hold}
 use Rattle.refusal.specs.Outcome.{accepted, Test}
-use Rattle.refusal.proofs.First.{first-none, first-passes}
+use Rattle.refusal.proofs.First.{accepted-same}
 use Rattle.stage.specs.declared.regions.Position.{Position}
+use Rattle.stage.proofs.Fit.{both-pass, pass-both}
 use Rattle.region_file.specs.declared.records.Record.{Record}
-use Rattle.region_file.specs.Records.{record-at, first-record, most-records}
+use Rattle.region_file.specs.Records.{record-at, first-record, reader-field, most-records}
 use Rattle.region_file.specs.Chain.{numbers, member, on-chain}
-use Rattle.region_file.specs.Judge.{record-tests, nowhere, also, chain-outcome, judge-outcome}
+use Rattle.region_file.specs.Judge.{loader-tests, nowhere, also, chain-outcome, judge-outcome}
 use Rattle.region_file.proofs.Chain.{sound, Linked, linked, chain-some, judged-chain}
 use Rattle.region_file.proofs.Numbers.{member-visited, member-passes}
 use Rattle.visits.specs.declared.file_walks.FileVisit.{FileVisit}
 use Rattle.visits.specs.Visits.{planned, position-of, file-visit, record-visits, visits-of, file-visits}
 use Rattle.visits.specs.Theorem.{Among, VisitOf, visits-at}
-use Rattle.visits.proofs.Coming.{accepted-inside}
 
 -- ---- the visits of a list that have record number n and index i
 
@@ -87,7 +87,7 @@ module _ (tests : Record → List Test) (file : List ℕ) (n i : ℕ) where
   wanted on = cond (on && ltb i (planned file n .count)) (file-visit n (planned file n) i ∷ []) []
 
   abbrev Once : ℕ → ℕ → Type 0
-  Once links k = visits-at n i (visits-of file (numbers file links k)) ≡ wanted (member n (numbers file links k))
+  Once links k = visits-at n i (visits-of (planned file) (numbers file links k)) ≡ wanted (member n (numbers file links k))
 
   -- those of record n itself
   own-visits : visits-at n i (record-visits n (planned file n) 0 (planned file n .count)) ≡ wanted true
@@ -102,19 +102,19 @@ module _ (tests : Record → List Test) (file : List ℕ) (n i : ℕ) where
           let h = ltb-false i (planned file n .count) e in
           visits-at-none n i (planned file n) 0 (planned file n .count) (inr (omega (arith, h)))
 
-  none-once : visits-at n i (visits-of file []) ≡ wanted (member n [])
+  none-once : visits-at n i (visits-of (planned file) []) ≡ wanted (member n [])
   unfolding visits-of visits-at member
   none-once = refl
 
   -- one record more, which the others do not repeat
-  cons-once : (k : ℕ) (others : List ℕ) → visits-at n i (visits-of file others) ≡ wanted (member n others)
-      → (k ≡ n → member n others ≡ false) → visits-at n i (visits-of file (k ∷ others)) ≡ wanted (member n (k ∷ others))
+  cons-once : (k : ℕ) (others : List ℕ) → visits-at n i (visits-of (planned file) others) ≡ wanted (member n others)
+      → (k ≡ n → member n others ≡ false) → visits-at n i (visits-of (planned file) (k ∷ others)) ≡ wanted (member n (k ∷ others))
   unfolding visits-of member
   cons-once k others after fresh =
-      visits-at-append n i (record-visits k (planned file k) 0 (planned file k .count)) (visits-of file others) ∙ go (eqb k n) refl
+      visits-at-append n i (record-visits k (planned file k) 0 (planned file k .count)) (visits-of (planned file) others) ∙ go (eqb k n) refl
     where
       go : (b : Bool) → eqb k n ≡ b
-          → visits-at n i (record-visits k (planned file k) 0 (planned file k .count)) ++ visits-at n i (visits-of file others)
+          → visits-at n i (record-visits k (planned file k) 0 (planned file k .count)) ++ visits-at n i (visits-of (planned file) others)
           ≡ wanted (b || member n others)
       go true e =
           let same = eqb-true k n e in
@@ -123,7 +123,7 @@ module _ (tests : Record → List Test) (file : List ℕ) (n i : ℕ) where
           (after ∙ ap wanted (fresh same))
           ∙ append-nil (wanted true)
       go false e =
-          ap (λ (vs : List FileVisit). vs ++ visits-at n i (visits-of file others))
+          ap (λ (vs : List FileVisit). vs ++ visits-at n i (visits-of (planned file) others))
           (visits-at-other n i k (planned file k) 0 (planned file k .count) (eqb-false k n e)) ∙ after
 
   chain-once : (links : ℕ) (v : ℕ → Bool) (k : ℕ) → chain-outcome tests file links v k ≡ accepted tt → Once links k
@@ -142,9 +142,9 @@ module _ (tests : Record → List Test) (file : List ℕ) (n i : ℕ) where
 
 pub once : (further : Record → List Test) (file : List ℕ) → judge-outcome further file ≡ accepted tt
     → (n i : ℕ) → visits-at n i (file-visits file)
-    ≡ cond (on-chain file n && ltb i (planned file n .count)) (file-visit n (planned file n) i ∷ []) []
+    ≡ cond (on-chain file n && ltb i (record-at file n .count)) (file-visit n (planned file n) i ∷ []) []
 unfolding file-visits
-once further file e n i = chain-once (record-tests further) file n i most-records nowhere (first-record file) (judged-chain further file e)
+once further file e n i = chain-once (loader-tests further file) file n i most-records nowhere (first-record file) (judged-chain further file e)
 
 -- ---- one visit
 
@@ -193,12 +193,14 @@ module _ (further : Record → List Test) (file : List ℕ) (e : judge-outcome f
       go : (b : Bool) → (on-chain file (v .number) && ltb (v .index) (owned .count)) ≡ b → Among v (cond b (itself ∷ []) []) → VisitOf file v
       go true t (inl same) =
           let p = both-hold (on-chain file (v .number)) (ltb (v .index) (owned .count)) t in
-          let own = sound further owned
-          (member-passes (record-tests further) file (v .number) most-records nowhere (first-record file) (judged-chain further file e) (p .0)) in
+          let f = reader-field file in
+          let r = record-at file (v .number) in
+          let own = sound further f r
+          (member-passes (loader-tests further file) file (v .number) most-records nowhere (first-record file) (judged-chain further file e) (p .0)) in
           record {
             chained = p .0;
             counted = ltb-true (v .index) (owned .count) (p .1);
-            placed = first-passes (accepted (position-of owned (v .index))) 10 [] (ap not (own .inside)) ∙ first-none _
+            placed = pass-both (accepted (position-of owned (v .index))) f (r .region) (own .inside) (own .taken)
                 ∙ ap (λ (u : FileVisit). accepted (record { x = u .x; y = u .y })) (sym same);
           }
       go true t (inr m) = absurd m
@@ -208,7 +210,8 @@ module _ (further : Record → List Test) (file : List ℕ) (e : judge-outcome f
   visit-is o =
       let t : (on-chain file (v .number) && ltb (v .index) (owned .count)) ≡ true =
       ap₂ (λ (a b : Bool). a && b) (o .chained) (lt-ltb (v .index) (owned .count) (o .counted)) in
-      let lies = accepted-inside owned (v .index) (o .placed) .1 in
+      let lies = accepted-same
+      (both-pass (accepted (position-of owned (v .index))) (reader-field file) (record-at file (v .number) .region) (o .placed) .2) in
       let same : v ≡ itself = ap (λ (p : Position). record { number = v .number; index = v .index; x = p .x; y = p .y }) (sym lies) in
       among-all (v .number) (v .index) v (file-visits file)
       (subst (Among v) (sym (the-one ∙ ap (λ (b : Bool). cond b (itself ∷ []) []) t)) (inl same))

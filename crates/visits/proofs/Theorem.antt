@@ -14,6 +14,8 @@ use Rattle.visits.specs.Visits.{file-visits}
 use Rattle.visits.specs.FileWalk.{visits-to-come, Gives}
 use Rattle.visits.specs.Theorem.{Steps, no-step, first-step, file-answers, Theorems}
 use Rattle.visits.proofs.FileVisits.{visit-iff, once}
+use Rattle.visits.proofs.Inside.{fields-inside}
+use Rattle.visits.proofs.Base.{as-before}
 
 -- the first answer and the others
 first-then : (file : List ℕ) (p q : FileWalk) (s : FileStep) (ss : List FileStep) → Gives file p s q
@@ -36,5 +38,7 @@ theorems = record {
       steps file p q ss run ∙ ap (file-answers (length ss)) (then-same (judge-outcome no-further-tests file) (file-visits file) (sym e));
   visit-iff = visit-iff;
   once = once;
+  fields-inside = fields-inside;
+  as-before = as-before;
   every-link-counts = λ links few. omega arith;
 }

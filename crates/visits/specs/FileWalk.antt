@@ -7,8 +7,8 @@ use lib.Dec.{eqb, leb}
 use lib.IntN.{pos}
 use Rattle.refusal.specs.Outcome.{Outcome, accepted}
 use Rattle.refusal.specs.Refusal.{of-refusal}
-use Rattle.stage.specs.Region.{within}
-use Rattle.region_file.specs.Records.{record-count, most-records}
+use Rattle.stage.specs.Region.{within, takes}
+use Rattle.region_file.specs.Records.{record-at, reader-field, record-count, most-records}
 use Rattle.visits.specs.declared.file_walks.FileVisit.{FileVisit}
 use Rattle.visits.specs.declared.file_walks.FileWalk.{FileWalk}
 use Rattle.visits.specs.declared.file_walks.FileStep.{FileStep}
@@ -17,9 +17,11 @@ use Rattle.visits.specs.declared.file_walks.OpenedFile.{OpenedFile}
 use Rattle.visits.specs.declared.file_walks.OpenedFile.the-variants as opened
 use Rattle.visits.specs.Visits.{planned, record-visits}
 
--- n names a record of the file whose region lies within its limits
+-- n names a record of the file whose region lies within its limits and takes the reader's field
 unfoldable pub listable : List ℕ → ℕ → Bool
-listable file n = not (eqb n 0) && (not (leb (record-count file) n) && within (planned file n .region))
+listable file n =
+    let r = record-at file n .region in
+    not (eqb n 0) && (not (leb (record-count file) n) && (within r && takes (reader-field file) r))
 
 -- the visits of the chain that begins with record n, over at most `links` records, up to a number that is not listable
 unfoldable pub visits-from : List ℕ → ℕ → ℕ → List FileVisit

@@ -1,4 +1,5 @@
--- What users rely on: the steps from an opened file give its visits, one after the other, and then the end; and which visits a file has.
+-- What users rely on: the steps from an opened file give its visits, one after the other, and then the end; which visits a file has; that the
+-- reader's field lies in its region at each; and that files without a field have the visits that they had.
 use mathlib.Core.Path.{_≡_}
 use mathlib.Core.Bool.{true, cond, _&&_}
 use mathlib.Core.List.{List, [], _∷_}
@@ -6,9 +7,13 @@ use mathlib.Core.Logic.{_⊎_, _↔_}
 use Prim.Native.Nat.{ℕ, zero, suc, _≤_, _<_}
 use lib.Dec.{eqb, ltb}
 use lib.ListN.{length}
+use Rattle.ranges.specs.Below.{Below}
+use Rattle.net.specs.Sequence.{point}
 use Rattle.refusal.specs.Outcome.{accepted, Test}
+use Rattle.plan.specs.Pair.{sequence, standard-pair}
+use Rattle.stage.specs.Theorem.{PositionOf}
 use Rattle.region_file.specs.declared.records.Record.{Record}
-use Rattle.region_file.specs.Records.{most-records}
+use Rattle.region_file.specs.Records.{record-at, reader-field, zeros, most-records}
 use Rattle.region_file.specs.Chain.{on-chain}
 use Rattle.region_file.specs.Judge.{judge-outcome}
 use Rattle.visits.specs.declared.file_walks.FileVisit.{FileVisit}
@@ -17,6 +22,7 @@ use Rattle.visits.specs.declared.file_walks.FileStep.{FileStep}
 use Rattle.visits.specs.declared.file_walks.FileStep.the-variants as step
 use Rattle.visits.specs.declared.file_walks.OpenedFile.the-variants as opened
 use Rattle.visits.specs.Visits.{planned, visit-position-outcome, file-visit, file-visits, visits-outcome}
+use Rattle.visits.specs.Base.{base-visits-outcome}
 use Rattle.visits.specs.FileWalk.{links-counted, visits-to-come, Gives, of-opened-file}
 
 -- ---- steps
@@ -43,8 +49,15 @@ Among v (w ∷ ws) = (v ≡ w) ⊎ Among v ws
 -- the record with that index lies
 pub record VisitOf (file : List ℕ) (v : FileVisit) : Type 0 where
   pub chained : on-chain file (v .number) ≡ true
-  pub counted : v .index < planned file (v .number) .count
-  pub placed : visit-position-outcome (planned file (v .number)) (v .index) ≡ accepted (record { x = v .x; y = v .y })
+  pub counted : v .index < record-at file (v .number) .count
+  pub placed : visit-position-outcome file (v .number) (v .index) ≡ accepted (record { x = v .x; y = v .y })
+
+-- the position of v is C-12's, of the point of its index under its record's shift, with the file's field in its record's region
+abbrev pub HasPosition : List ℕ → FileVisit → Type 0
+HasPosition file v =
+    let r = record-at file (v .number) in
+    let p = point (sequence standard-pair (r .shift)) (v .index) in
+    PositionOf (reader-field file) (r .region) (p .0) (p .1) (record { x = v .x; y = v .y })
 
 -- those of a list of visits that have the record number n and the index i
 unfoldable pub visits-at : ℕ → ℕ → List FileVisit → List FileVisit
@@ -64,6 +77,11 @@ pub record Theorems : Type 0 where
   -- and no record and index occur twice: once where the record is on the chain and the index below its count, and else never
   pub once : (further : Record → List Test) (file : List ℕ) → judge-outcome further file ≡ accepted tt
       → (n i : ℕ) → visits-at n i (file-visits file)
-      ≡ cond (on-chain file n && ltb i (planned file n .count)) (file-visit n (planned file n) i ∷ []) []
+      ≡ cond (on-chain file n && ltb i (record-at file n .count)) (file-visit n (planned file n) i ∷ []) []
+  -- of every visit of an accepted file the whole field lies in the region of its record, at the place that C-12's formula gives
+  pub fields-inside : (further : Record → List Test) (file : List ℕ) → Below 256 file → judge-outcome further file ≡ accepted tt
+      → (v : FileVisit) → Among v (file-visits file) → HasPosition file v
+  -- a file whose bytes 8 to 15 are zero has the visits that it had by 01, or its refusal
+  pub as-before : (file : List ℕ) → zeros file 8 8 ≡ true → visits-outcome file ≡ base-visits-outcome file
   -- of a walk that may follow no more links than a file can have records every link counts
   pub every-link-counts : (links : ℕ) → links ≤ most-records → links-counted links ≡ links

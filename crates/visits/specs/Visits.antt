@@ -1,29 +1,36 @@
--- The visits of a region file: for each record of its chain, those of the standard pair with the record's shift, in the record's region.
+-- The visits of a region file: for each record of its chain, those of the standard pair with the record's shift, in the record's region, so that
+-- the reader's whole field lies in it.
 use mathlib.Core.List.{List, [], _∷_, _++_, map}
 use Prim.Native.Nat.{ℕ}
 use Rattle.ranges.specs.Range.{range}
 use Rattle.net.specs.Sequence.{point}
 use Rattle.refusal.specs.Outcome.{Outcome, accepted, first, then}
 use Rattle.plan.specs.Pair.{sequence, standard-pair}
+use Rattle.stage.specs.declared.regions.Region.{Region}
 use Rattle.stage.specs.declared.regions.Position.{Position}
-use Rattle.stage.specs.Region.{outside, position-in}
+use Rattle.stage.specs.Region.{position-tests, corners, position-in}
 use Rattle.region_file.specs.declared.records.Record.{Record}
-use Rattle.region_file.specs.Records.{record-at}
+use Rattle.region_file.specs.Records.{record-at, reader-field}
 use Rattle.region_file.specs.Chain.{chain-numbers}
 use Rattle.region_file.specs.Judge.{no-further-tests, judge-outcome}
 use Rattle.visits.specs.declared.file_walks.FileVisit.{FileVisit}
 
--- record n as the planner reads it: the record itself
-abbrev pub planned : List ℕ → ℕ → Record
-planned file n = record-at file n
+-- a record with another region
+abbrev pub with-region : Record → Region → Record
+with-region r g = record { next = r .next; region = g; shift = r .shift; count = r .count }
 
--- where the visit with index i of a record lies
+-- record n as the planner reads it: its region is that of the places which the corner of the reader's field may take (C-12)
+abbrev pub planned : List ℕ → ℕ → Record
+planned file n = let r = record-at file n in with-region r (corners (reader-field file) (r .region))
+
+-- where the visit with index i of a record lies, by 01's formula in the record's region
 unfoldable pub position-of : Record → ℕ → Position
 position-of r i = let p = point (sequence standard-pair (r .shift)) i in position-in (r .region) (p .0) (p .1)
 
--- and what asking for it comes to: 10 where the region is outside its limits
-abbrev pub visit-position-outcome : Record → ℕ → Outcome Position
-visit-position-outcome r i = first (outside (r .region) ∷ []) (accepted (position-of r i))
+-- what asking where the visit with index i of record n lies comes to: 10 or 16 where the position of no point would be given
+abbrev pub visit-position-outcome : List ℕ → ℕ → ℕ → Outcome Position
+visit-position-outcome file n i =
+    first (position-tests (reader-field file) (record-at file n .region)) (accepted (position-of (planned file n) i))
 
 -- the visit with index i of the record r, whose number is n
 abbrev pub file-visit : ℕ → Record → ℕ → FileVisit
@@ -33,14 +40,14 @@ file-visit n r i = record { number = n; index = i; x = position-of r i .x; y = p
 abbrev pub record-visits : ℕ → Record → ℕ → ℕ → List FileVisit
 record-visits n r i k = map (file-visit n r) (range i k)
 
--- the visits of the records with these numbers, one record after the other, each from index 0 on
-unfoldable pub visits-of : List ℕ → List ℕ → List FileVisit
-visits-of file [] = []
-visits-of file (n ∷ ns) = record-visits n (planned file n) 0 (planned file n .count) ++ visits-of file ns
+-- the visits of the records with these numbers, one record after the other, each from index 0 on; `read` gives the record of a number
+unfoldable pub visits-of : (ℕ → Record) → List ℕ → List FileVisit
+visits-of read [] = []
+visits-of read (n ∷ ns) = record-visits n (read n) 0 (read n .count) ++ visits-of read ns
 
 -- the visits of a file, in the order of its chain
 unfoldable pub file-visits : List ℕ → List FileVisit
-file-visits file = visits-of file (chain-numbers file)
+file-visits file = visits-of (planned file) (chain-numbers file)
 
 -- and what asking for them comes to
 abbrev pub visits-outcome : List ℕ → Outcome (List FileVisit)

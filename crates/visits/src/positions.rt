@@ -1,25 +1,28 @@
 // Where the visits of a record lie.
-use crate::records::planned;
 use plan::Plan;
 use region_file::Record;
 use stage::Placed;
 ghost use mathlib.Core.Path.{_≡_};
 ghost use Rattle.stage.specs.Region.{of-placed};
-ghost use Rattle.visits.specs.Visits.{planned, visit-position-outcome};
+ghost use Rattle.visits.specs.Visits.{visit-position-outcome};
+ghost use Rattle.visits.specs.Stepping.{planned-position-outcome};
 
-// Where the visit of a record with this index lies, or 10.
+// Where the visit with this index lies of a record that is read for the reader's field, or 10.
 pub(crate) fn position_of(planned: Record, index: u32) -> Placed
-    ensures { λ r. ⌜ of-placed r ≡ visit-position-outcome planned index ⌝ }
+    ensures { λ r. ⌜ of-placed r ≡ planned-position-outcome planned index ⌝ }
 {
     let region = planned.region;
     let point = Plan::standard_point(planned.shift, index);
-    region.position(point.x, point.y)
+    region.corner(point.x, point.y)
 }
 
-// Where the visit of record n with this index lies, or 10. It is answered for every number and index, whether the record is on the
+// Where the visit of record n with this index lies, or 10 or 16. It is answered for every number and index, whether the record is on the
 // chain and has so many visits or not (`region_file::on_chain`, `count`).
 pub fn visit_position(file: &[u8], n: u32, index: u32) -> Placed
-    ensures { λ r. ⌜ of-placed r ≡ visit-position-outcome (planned (now (file .entry)) n) index ⌝ }
+    ensures { λ r. ⌜ of-placed r ≡ visit-position-outcome (now (file .entry)) n index ⌝ }
 {
-    position_of(planned(file, n), index)
+    let named = region_file::record_at(file, n);
+    let region = named.region;
+    let point = Plan::standard_point(named.shift, index);
+    region.position(region_file::reader_field(file), point.x, point.y)
 }

@@ -1,6 +1,7 @@
 // The records of a file as the planner reads them, and walks that stand before or at one.
 use crate::file_walks::FileWalk;
 use plan::Shift;
+use refusal::Judgement;
 use region_file::MOST_RECORDS;
 use region_file::Record;
 use stage::Region;
@@ -9,14 +10,22 @@ ghost use Rattle.visits.specs.Visits.{planned};
 ghost use Rattle.visits.specs.FileWalk.{listable, links-counted, before-record};
 ghost use Rattle.visits.specs.Stepping.{AtNextVisit};
 
-// Record n as the planner reads it.
-pub(crate) fn planned(file: &[u8], n: u32) -> Record
+// Record n as the planner reads it: its region is that of the places which the corner of the reader's field may take.
+fn planned(file: &[u8], n: u32) -> Record
     ensures { λ r. ⌜ r ≡ planned (now (file .entry)) n ⌝ }
 {
-    region_file::record_at(file, n)
+    let named = region_file::record_at(file, n);
+    let region = named.region;
+    let shift = named.shift;
+    Record {
+        next: named.next,
+        region: region.corners(region_file::reader_field(file)),
+        shift,
+        count: named.count,
+    }
 }
 
-// Whether n names a record of the file whose region lies within its limits.
+// Whether n names a record of the file whose region lies within its limits and takes the reader's field.
 fn listable(file: &[u8], n: u32) -> bool
     ensures { λ r. ⌜ r ≡ listable (now (file .entry)) n ⌝ }
 {
@@ -26,9 +35,13 @@ fn listable(file: &[u8], n: u32) -> bool
     if region_file::record_count(file) <= n as usize {
         return false;
     }
-    let entry = planned(file, n);
-    let region = entry.region;
-    region.within()
+    let named = region_file::record_at(file, n);
+    let region = named.region;
+    let judged = region.judge(region_file::reader_field(file));
+    match judged {
+        Judgement::Refused(_) => false,
+        Judgement::Accepted => true,
+    }
 }
 
 // The walk before the record `next`, with at most `links` records to follow. It holds a record without visits, whose next is `next`.

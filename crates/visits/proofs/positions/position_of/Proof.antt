@@ -3,7 +3,7 @@
 use mathlib.Core.Path.{ap, _∙_}
 use Prim.Native.Nat.{ℕ}
 use borrow.Author.Needs.{needs}
-use Rattle.stage.specs.Region.{position-outcome}
+use Rattle.stage.specs.Region.{corner-outcome}
 use Rattle.visits.specs.Visits.{position-of}
 use Rattle.visits.proofs.positions.position_of.Statement.{statement}
 use Rattle.visits.proofs.positions.position_of.Tie as tie
@@ -11,14 +11,14 @@ use Rattle.visits.proofs.positions.position_of.Tie as tie
 standard-point-requires : tie.Need-standard-point-requires
 standard-point-requires c κs = search needs
 
-position-requires : tie.Need-position-requires
-position-requires c κs = search needs
+corner-requires : tie.Need-corner-requires
+corner-requires c κs = search needs
 
 returns : tie.Need-returns
 unfolding position-of
 returns c =
     let r = c .before .before .before .args .planned in
-    c .position .ensures ∙ ap (λ (p : ℕ × ℕ). position-outcome (r .region) (p .0) (p .1)) (c .before .standard-point .ensures)
+    c .corner .ensures ∙ ap (λ (p : ℕ × ℕ). corner-outcome (r .region) (p .0) (p .1)) (c .before .standard-point .ensures)
 
 pub position-of-spec : {M : Type 1} → statement M
-position-of-spec = tie.close (tie.spec standard-point-requires position-requires returns)
+position-of-spec = tie.close (tie.spec standard-point-requires corner-requires returns)

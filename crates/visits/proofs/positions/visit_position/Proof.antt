@@ -1,22 +1,46 @@
--- `positions::visit_position`: the position of the visit in the record as the planner reads it.
+-- `positions::visit_position`: the point of the standard pair, placed in the record's region with the file's field.
 -- Assumes nothing.
-use mathlib.Core.Path.{ap, _∙_}
+use mathlib.Core.Path.{ap, ap₂, _∙_}
+use Prim.Native.Nat.{ℕ}
 use borrow.Author.Needs.{needs}
+use Rattle.net.specs.Sequence.{point}
+use Rattle.plan.specs.Pair.{sequence, standard-pair}
+use Rattle.stage.specs.declared.regions.Field.{Field}
+use Rattle.stage.specs.Region.{position-outcome}
 use Rattle.region_file.specs.declared.records.Record.{Record}
-use Rattle.visits.specs.Visits.{visit-position-outcome}
+use Rattle.visits.specs.Visits.{position-of}
 use Rattle.visits.proofs.positions.visit_position.Statement.{statement}
 use Rattle.visits.proofs.positions.visit_position.Tie as tie
 
-planned-requires : tie.Need-planned-requires
-planned-requires c κs = search needs
+record-at-requires : tie.Need-record-at-requires
+record-at-requires c κs = search needs
 
-position-of-requires : tie.Need-position-of-requires
-position-of-requires c κs = search needs
+standard-point-requires : tie.Need-standard-point-requires
+standard-point-requires c κs = search needs
+
+reader-field-requires : tie.Need-reader-field-requires
+reader-field-requires c κs = search needs
+
+position-requires : tie.Need-position-requires
+position-requires c κs = search needs
 
 returns : tie.Need-returns
+unfolding position-of
 returns c =
-    let a = c .before .before .before .args in
-    c .position-of .ensures ∙ ap (λ (r : Record). visit-position-outcome r (a .index)) (c .before .planned .ensures)
+    let a = c .before .before .before .before .before .before .args in
+    let named = c .before .before .before .before .record-at in
+    let p = c .before .before .standard-point in
+    c .position .ensures
+    ∙ ap (λ (q : ℕ × ℕ). position-outcome (c .before .reader-field .result) (named .result .region) (q .0) (q .1)) (p .ensures)
+    ∙ ap₂ (λ (r : Record) (f : Field). let q = point (sequence standard-pair (r .shift)) (a .index) in position-outcome f (r .region) (q .0) (q .1))
+    (named .ensures) (c .before .reader-field .ensures)
 
 pub visit-position-spec : {M : Type 1} → statement M
-visit-position-spec = tie.close (tie.spec planned-requires position-of-requires returns)
+visit-position-spec =
+    tie.close
+    (tie.spec
+    record-at-requires
+    standard-point-requires
+    reader-field-requires
+    position-requires
+    returns)

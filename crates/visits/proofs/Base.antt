@@ -1,0 +1,34 @@
+-- A file whose record 0 has zero for a field has the visits of 01: it is judged so, and its records are read as they stand, since the corner of a
+-- field of 0 by 0 may take every place of a region.
+-- Assumes nothing.
+use mathlib.Core.Path.{_≡_, ap, ap₂, _∙_}
+use mathlib.Core.Bool.{true}
+use mathlib.Core.List.{List}
+use Prim.Native.Nat.{ℕ}
+use native.Mathlib.Omega.{arith}
+use Rattle.refusal.specs.Outcome.{Outcome, accepted, then}
+use Rattle.stage.specs.declared.regions.Field.{Field}
+use Rattle.stage.specs.Region.{corners}
+use Rattle.stage.proofs.Fit.{corners-least}
+use Rattle.region_file.specs.declared.records.Record.{Record}
+use Rattle.region_file.specs.Records.{record-at, zeros}
+use Rattle.region_file.specs.Chain.{chain-numbers}
+use Rattle.region_file.proofs.Base.{no-field}
+use Rattle.region_file.proofs.Theorem.{theorems}
+use Rattle.visits.specs.declared.file_walks.FileVisit.{FileVisit}
+use Rattle.visits.specs.Visits.{with-region, planned, visits-of, file-visits, visits-outcome}
+use Rattle.visits.specs.Base.{base-file-visits, base-visits-outcome}
+
+read-as-is : (file : List ℕ) → zeros file 8 8 ≡ true → (n : ℕ) → planned file n ≡ record-at file n
+read-as-is file h n =
+    let r = record-at file n in
+    ap (λ (f : Field). with-region r (corners f (r .region))) (no-field file h)
+    ∙ ap (with-region r) (corners-least (record { width = 0; height = 0 }) (r .region) (omega arith) (omega arith))
+
+visits-as-before : (file : List ℕ) → zeros file 8 8 ≡ true → file-visits file ≡ base-file-visits file
+unfolding file-visits base-file-visits
+visits-as-before file h = ap (λ (read : ℕ → Record). visits-of read (chain-numbers file)) (λ i n. read-as-is file h n i)
+
+pub as-before : (file : List ℕ) → zeros file 8 8 ≡ true → visits-outcome file ≡ base-visits-outcome file
+as-before file h =
+    ap₂ (λ (o : Outcome Unit) (vs : List FileVisit). then o (accepted vs)) (theorems .as-before file h .0) (visits-as-before file h)
