@@ -12,7 +12,7 @@ use Rattle.refusal.proofs.Refusal.{the-type}
 
 -- the numbers that the variants without values have among all variants, from 0
 abbrev pub without-values : List ℕ
-without-values = 0 ∷ 1 ∷ 3 ∷ 4 ∷ 5 ∷ 6 ∷ 7 ∷ 8 ∷ 9 ∷ 10 ∷ 11 ∷ 12 ∷ 13 ∷ 14 ∷ []
+without-values = 0 ∷ 1 ∷ 3 ∷ 4 ∷ 5 ∷ 6 ∷ 7 ∷ 8 ∷ 9 ∷ 10 ∷ 11 ∷ 12 ∷ 13 ∷ 14 ∷ 15 ∷ []
 
 pub no-values : (why : Refusal) → OneOf without-values (tagOf the-type why) → values why ≡ []
 no-values variant.WordCount h = refl
@@ -30,3 +30,4 @@ no-values variant.ReservedBytes h = refl
 no-values variant.MissingRecord h = refl
 no-values variant.ChainReturns h = refl
 no-values variant.VisitCount h = refl
+no-values variant.Field h = refl

@@ -82,7 +82,7 @@ fn headers() {
     change_line(4, 32);
     change_line(4, 33);
     change_line(4, 4294967295);
-    change_line(8, 1);
+    change_line(16, 1);
     change_line(28, 16777216);
 }
 
@@ -126,8 +126,8 @@ fn fault_line(at: u32, word: u32, at_2: u32, word_2: u32) {
 
 // Two faults, or a fault off the chain.
 fn two_faults() {
-    fault_line(4, 33, 8, 1);
-    fault_line(8, 1, 32, 5);
+    fault_line(4, 33, 16, 1);
+    fault_line(16, 1, 32, 5);
     fault_line(4, 0, 0, 3);
     fault_line(32, 5, 60, 4097);
     fault_line(32, 5, 44, 0);
@@ -139,7 +139,35 @@ fn two_faults() {
     fault_line(0, 2, 44, 0);
     fault_line(32, 0, 92, 4097);
     fault_line(64, 5, 92, 4097);
-    file_line(40, 4, 33, 8, 1);
+    file_line(40, 4, 33, 16, 1);
+}
+
+// The reader's field at its limits: those of record 2, which is the smaller, and of record 1 where it stands alone; and an empty chain.
+fn fields() {
+    fault_line(8, 1, 12, 1);
+    fault_line(8, 300, 12, 400);
+    fault_line(8, 301, 12, 400);
+    fault_line(8, 300, 12, 401);
+    fault_line(8, 4294967295, 12, 0);
+    fault_line(8, 0, 12, 4294967295);
+    fault_line(8, 400, 12, 300);
+    fault_line(0, 0, 8, 4294967295);
+    fault_line(32, 0, 8, 301);
+    fault_line(32, 0, 8, 1001);
+}
+
+// A field that is too large, and another fault.
+fn field_faults() {
+    fault_line(8, 1001, 44, 0);
+    fault_line(8, 1001, 60, 4097);
+    fault_line(8, 301, 60, 4097);
+    fault_line(8, 1001, 32, 5);
+    fault_line(0, 3, 8, 1001);
+    fault_line(64, 1, 8, 301);
+    fault_line(64, 1, 8, 300);
+    fault_line(8, 1001, 16, 1);
+    fault_line(4, 33, 8, 1001);
+    file_line(40, 8, 1001, 12, 1001);
 }
 
 pub fn files() {
@@ -153,6 +181,8 @@ pub fn files() {
     extents(48);
     counts();
     two_faults();
+    fields();
+    field_faults();
 }
 
 // Records 1 to 2,048, each of which names the one before it, and which are else alike.
@@ -203,11 +233,13 @@ fn list_lines(at: u32, word: u32, at_2: u32, word_2: u32) {
     print::text(&space[..n]);
 }
 
-// Two records, no record, a refused file, and one record alone.
+// Two records, no record, a refused file, one record alone, and two records with a reader's field, the second as large as record 2.
 pub fn listings() {
     print::text(b"list\n");
     list_lines(0, 1, 0, 1);
     list_lines(0, 0, 0, 0);
     list_lines(32, 1, 32, 1);
     list_lines(32, 0, 36, 4294966796);
+    list_lines(8, 200, 12, 100);
+    list_lines(8, 300, 12, 400);
 }

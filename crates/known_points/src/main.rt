@@ -22,6 +22,7 @@ fn main() {
     unit_numbers();
     visits();
     positions::positions();
+    positions::fields();
     units::steps();
     files::files();
     files::long();

@@ -1,25 +1,30 @@
 // Positions on the stage.
+use stage::Field;
 use stage::Placed;
 use stage::Region;
 ghost use mathlib.Core.Path.{_≡_};
 ghost use Rattle.answers.specs.Answers.{answer-number, part-left};
 ghost use Rattle.vektrid.specs.Regions.{region-position-outcome};
 
-// Where the point with coordinate words x and y lies in a region.
+// Where the point with coordinate words x and y lies in a region, for a reader's field.
 #[no_mangle]
 pub extern "C" fn vektrid_position(
     left: i32,
     top: i32,
     width: u32,
     height: u32,
+    field_width: u32,
+    field_height: u32,
     x: u32,
     y: u32,
     at_x: &mut i32,
     at_y: &mut i32,
 ) -> u32
-    ensures answer { λ r. ⌜ r ≡ answer-number (region-position-outcome left top width height x y) ⌝ }
-    ensures x { λ _. ⌜ now («at_x» .exit) ≡ part-left (region-position-outcome left top width height x y) (λ p. p .x) (now («at_x» .entry)) ⌝ }
-    ensures y { λ _. ⌜ now («at_y» .exit) ≡ part-left (region-position-outcome left top width height x y) (λ p. p .y) (now («at_y» .entry)) ⌝ }
+    ensures answer { λ r. ⌜ r ≡ answer-number (region-position-outcome left top width height «field_width» «field_height» x y) ⌝ }
+    ensures x { λ _. ⌜ now («at_x» .exit)
+        ≡ part-left (region-position-outcome left top width height «field_width» «field_height» x y) (λ p. p .x) (now («at_x» .entry)) ⌝ }
+    ensures y { λ _. ⌜ now («at_y» .exit)
+        ≡ part-left (region-position-outcome left top width height «field_width» «field_height» x y) (λ p. p .y) (now («at_y» .entry)) ⌝ }
 {
     let region = Region {
         left,
@@ -27,7 +32,11 @@ pub extern "C" fn vektrid_position(
         width,
         height,
     };
-    let placed = region.position(x, y);
+    let field = Field {
+        width: field_width,
+        height: field_height,
+    };
+    let placed = region.position(field, x, y);
     match placed {
         Placed::Refused(why) => why.number(),
         Placed::At(at) => {

@@ -47,6 +47,15 @@ mod tests {
         assert_eq!(text(&[HEAD, RECORD]), expected);
     }
 
+    /// The example with the field of C-12: the last line is 600 right of the
+    /// edge.
+    #[test]
+    fn listing_of_the_example_with_a_field() {
+        let head = [1, 2, 200, 0, 0, 0, 0, 0];
+        let expected = "record visit x y\n1 0 -500 0\n1 1 -100 400\n1 2 -300 600\n1 3 100 200\n";
+        assert_eq!(text(&[head, RECORD]), expected);
+    }
+
     #[test]
     fn chain_without_visits_has_only_the_header() {
         let (mut head, mut record) = (HEAD, RECORD);
@@ -69,6 +78,7 @@ mod tests {
     fn refused_file_prints_only_the_refusal() {
         assert_eq!(listing(&[0; 40]), b"refused 11\n");
         assert_eq!(text(&[HEAD, [1, 0, 0, 1, 1, 0, 0, 1]]), "refused 14\n");
+        assert_eq!(text(&[[1, 2, 1001, 0, 0, 0, 0, 0], RECORD]), "refused 16\n");
         let mut second = RECORD;
         second[7] = 4_097;
         // The visits of the first record are not listed either.

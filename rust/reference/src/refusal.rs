@@ -1,4 +1,5 @@
-//! The refusals 1 to 15 of document 01, each with its number.
+//! The refusals 1 to 15 of document 01 and 16 of document 02 (C-12), each with
+//! its number.
 
 use std::fmt;
 
@@ -28,7 +29,7 @@ pub enum Refusal {
     Region,
     /// 11: the file is empty, over 65,536 bytes, or not whole records.
     FileLength,
-    /// 12: bytes 8 to 31 of record 0 are not all zero.
+    /// 12: bytes 16 to 31 of record 0 are not all zero.
     HeadBytes,
     /// 13: the chain names a record that the file lacks.
     MissingRecord,
@@ -36,6 +37,8 @@ pub enum Refusal {
     Return,
     /// 15: the count of visits is above 4,096.
     VisitCount,
+    /// 16: the reader's field is wider or taller than the region.
+    Field,
 }
 
 impl Refusal {
@@ -57,6 +60,7 @@ impl Refusal {
             Refusal::MissingRecord => 13,
             Refusal::Return => 14,
             Refusal::VisitCount => 15,
+            Refusal::Field => 16,
         }
     }
 }
@@ -83,7 +87,7 @@ mod tests {
     }
 
     #[test]
-    fn numbers_run_from_one_to_fifteen() {
+    fn numbers_run_from_one_to_sixteen() {
         let all = [
             Refusal::WordCount,
             Refusal::Level,
@@ -100,8 +104,9 @@ mod tests {
             Refusal::MissingRecord,
             Refusal::Return,
             Refusal::VisitCount,
+            Refusal::Field,
         ];
         let numbers: Vec<u32> = all.iter().map(|refusal| refusal.number()).collect();
-        assert_eq!(numbers, (1..=15).collect::<Vec<u32>>());
+        assert_eq!(numbers, (1..=16).collect::<Vec<u32>>());
     }
 }

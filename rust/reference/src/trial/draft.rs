@@ -7,6 +7,9 @@ use crate::trial::splitmix::Splitmix;
 /// record 0 where the others have the next one's.
 pub const NEXT: usize = 0;
 pub const LEVEL: usize = 1;
+/// The reader's field, in record 0.
+pub const FIELD_WIDTH: usize = 2;
+pub const FIELD_HEIGHT: usize = 3;
 pub const LEFT: usize = 1;
 pub const TOP: usize = 2;
 pub const WIDTH: usize = 3;
@@ -20,21 +23,34 @@ pub struct Draft {
 }
 
 impl Draft {
-    /// A chain in shuffled order. The records off the chain hold junk, which
-    /// would be refused if anyone looked at it.
+    /// A chain in shuffled order, with a field that fits into all its regions.
+    /// The records off the chain hold junk, which would be refused if anyone
+    /// looked at it. Half of the drafts have a least extent, or the field of a
+    /// long chain could only be small.
     pub fn new(random: &mut Splitmix, on_chain: u32, off_chain: u32) -> Draft {
         let mut chain: Vec<u32> = (1..=on_chain + off_chain).collect();
         random.shuffle(&mut chain);
         let mut records: Vec<Fields> = (0..=chain.len()).map(|_| junk(random)).collect();
         records[0] = [0, 1 + random.below(32), 0, 0, 0, 0, 0, 0];
         chain.truncate(on_chain as usize);
+        let least = if random.one_in(2) { 1 } else { 1 + random.below(2_000) };
         let mut last = 0;
         for &number in &chain {
             records[last][NEXT] = number;
             last = number as usize;
-            records[last] = in_order(random);
+            records[last] = in_order(random, least);
         }
-        Draft { records, chain }
+        let mut draft = Draft { records, chain };
+        draft.records[0][FIELD_WIDTH] = field(random, draft.smallest(WIDTH));
+        draft.records[0][FIELD_HEIGHT] = field(random, draft.smallest(HEIGHT));
+        draft
+    }
+
+    /// The smallest width or height on the chain, by its place in a record. No
+    /// record limits the field where the chain has none.
+    pub fn smallest(&self, extent: usize) -> u32 {
+        let extents = self.chain.iter().map(|&number| self.records[number as usize][extent]);
+        extents.min().unwrap_or(u32::MAX)
     }
 
     /// Up to twelve records on the chain, and sometimes none.
@@ -69,10 +85,10 @@ fn junk(random: &mut Splitmix) -> Fields {
     std::array::from_fn(|_| random.word())
 }
 
-/// A record in order, at the end of the chain.
-fn in_order(random: &mut Splitmix) -> Fields {
+/// A record in order, at the end of the chain, with at least these extents.
+fn in_order(random: &mut Splitmix, least: u32) -> Fields {
     let (left, top) = (edge(random), edge(random));
-    let (width, height) = (extent(random), extent(random));
+    let (width, height) = (extent(random).max(least), extent(random).max(least));
     let (x, y) = (shift(random), shift(random));
     [0, left as u32, top as u32, width, height, x, y, count(random)]
 }
@@ -90,6 +106,17 @@ fn extent(random: &mut Splitmix) -> u32 {
         0 => random.pick(&[1, 1_000_000]),
         1 => 1 + random.below(5),
         _ => 1 + random.below(1_000_000),
+    }
+}
+
+/// A width or height of the field, up to the largest that fits. Often it is 0,
+/// as in older files, and often small.
+fn field(random: &mut Splitmix, largest: u32) -> u32 {
+    match random.below(8) {
+        0..=2 => 0,
+        3 | 4 => largest.min(1 + random.below(400)),
+        5 => largest,
+        _ => 1 + random.below(largest),
     }
 }
 
@@ -119,16 +146,40 @@ mod tests {
     fn drafts_are_accepted_with_their_chain() {
         for number in 0..500 {
             let draft = Draft::any(&mut Splitmix::of_case(7, number));
-            let records = chain(&draft.bytes()).unwrap();
+            let records = chain(&draft.bytes()).unwrap().records;
             let numbers: Vec<u32> = records.iter().map(|record| record.number).collect();
             assert_eq!(numbers, draft.chain);
         }
+    }
+
+    /// Each axis of many drafts: the field, and the smallest extent on the chain.
+    fn fields_and_limits() -> Vec<(u32, u32)> {
+        let drafts = (0..500).map(|number| Draft::any(&mut Splitmix::of_case(7, number)));
+        let axes = drafts.flat_map(|draft| {
+            let axis = |field: usize, extent| (draft.records[0][field], draft.smallest(extent));
+            [axis(FIELD_WIDTH, WIDTH), axis(FIELD_HEIGHT, HEIGHT)]
+        });
+        axes.collect()
+    }
+
+    #[test]
+    fn fields_are_of_every_kind() {
+        let all = fields_and_limits();
+        let count = |is_so: fn(u32, u32) -> bool| {
+            all.iter().filter(|&&(field, limit)| is_so(field, limit)).count()
+        };
+        assert!(count(|field, _| field == 0) > 200);
+        assert!(count(|field, _| (1..=400).contains(&field)) > 200);
+        assert!(count(|field, limit| field == limit && (2..=1_000_000).contains(&field)) > 50);
+        assert!(count(|field, limit| 400 < field && field < limit) > 50);
+        // Without records on the chain.
+        assert!(count(|field, limit| field > 1_000_000 && limit == u32::MAX) > 10);
     }
 
     #[test]
     fn full_draft_has_the_largest_length() {
         let file = Draft::full(&mut Splitmix::of_case(7, 7)).bytes();
         assert_eq!(file.len(), 65_536);
-        assert_eq!(chain(&file).unwrap().len(), 2_047);
+        assert_eq!(chain(&file).unwrap().records.len(), 2_047);
     }
 }

@@ -106,7 +106,8 @@ fn two_faults(random: &mut Splitmix, number: u64) -> Vec<u8> {
 mod tests {
     use super::*;
     use crate::refusal::Refusal;
-    use crate::region_file::chain;
+    use crate::region_file::{chain, judged, Stopped};
+    use crate::stage::LARGEST_EXTENT;
     use std::collections::BTreeSet;
 
     #[test]
@@ -140,6 +141,42 @@ mod tests {
     fn first_files_have_every_outcome() {
         let outcome = |number| chain(&make(1, number)).map_or_else(Refusal::number, |_| 0);
         let outcomes: BTreeSet<u32> = (0..1_000).map(outcome).collect();
-        assert_eq!(outcomes, BTreeSet::from([0, 2, 10, 11, 12, 13, 14, 15]));
+        assert_eq!(outcomes, BTreeSet::from([0, 2, 10, 11, 12, 13, 14, 15, 16]));
+    }
+
+    /// Among the accepted files some have no record and a field that fits
+    /// nowhere, and some have records and a field that is felt.
+    #[test]
+    fn first_files_have_fields_of_every_kind() {
+        let accepted = (0..1_000).filter_map(|number| chain(&make(1, number)).ok());
+        let (mut wild, mut felt) = (0, 0);
+        for chain in accepted {
+            let largest = chain.field.width.max(chain.field.height);
+            wild += u32::from(chain.records.is_empty() && largest > LARGEST_EXTENT);
+            felt += u32::from(!chain.records.is_empty() && largest > 1);
+        }
+        assert!(wild > 5 && felt > 100, "{wild} {felt}");
+    }
+
+    /// How many links the chain has up to the one that this record holds.
+    fn links_up_to(file: &[u8], holder: u32) -> u32 {
+        let (mut links, mut at) = (1, 0);
+        while at != holder {
+            let link = &file[at as usize * RECORD_BYTES..][..4];
+            at = u32::from_le_bytes([link[0], link[1], link[2], link[3]]);
+            links += 1;
+        }
+        links
+    }
+
+    #[test]
+    fn field_is_too_large_far_down_some_full_chains() {
+        let full = (0..200).map(|turn| make(1, 100 * turn + 99));
+        let far_down = full.filter(|file| match judged(file) {
+            Err(Stopped { refusal: Refusal::Field, holder, .. }) => links_up_to(file, holder) > 200,
+            _ => false,
+        });
+        let times = far_down.count();
+        assert!(times > 0, "{times}");
     }
 }

@@ -18,18 +18,20 @@ abbrev read : ℤ → ℤ
 read z = toZ w32 (ofZ w32 z)
 
 -- a region by its edges, stored and read back
-region-read : (left top : ℤ) (width height x y : ℕ) → SFits w32 left → SFits w32 top
-    → region-position-outcome (read left) (read top) width height x y ≡ region-position-outcome left top width height x y
-region-read left top width height x y l t =
-    ap₂ (λ (l t : ℤ). region-position-outcome l t width height x y) (toZ-ofZ w32 left l) (toZ-ofZ w32 top t)
+region-read : (left top : ℤ) (width height wide high x y : ℕ) → SFits w32 left → SFits w32 top
+    → region-position-outcome (read left) (read top) width height wide high x y ≡ region-position-outcome left top width height wide high x y
+region-read left top width height wide high x y l t =
+    ap₂ (λ (l t : ℤ). region-position-outcome l t width height wide high x y) (toZ-ofZ w32 left l) (toZ-ofZ w32 top t)
 
 -- the outcome, by what the region's method gave
 placed : (c : tie.After-position) → let a = c .before .args in
-    region-position-outcome (a .left) (a .top) (a .width) (a .height) (a .x) (a .y) ≡ of-placed (c .position .result)
+    region-position-outcome (a .left) (a .top) (a .width) (a .height) (a .field-width) (a .field-height) (a .x) (a .y)
+    ≡ of-placed (c .position .result)
 placed c =
     let a = c .before .args in
     let f = c .before .fits in
-    sym (c .position .ensures ∙ region-read (a .left) (a .top) (a .width) (a .height) (a .x) (a .y) (f .left) (f .top))
+    sym (c .position .ensures
+    ∙ region-read (a .left) (a .top) (a .width) (a .height) (a .field-width) (a .field-height) (a .x) (a .y) (f .left) (f .top))
 
 position-requires : tie.Need-position-requires
 position-requires c κs = search needs

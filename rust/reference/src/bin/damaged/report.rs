@@ -9,7 +9,7 @@ use reference::region_file::chain;
 use crate::program::Answer;
 
 /// The refusals a region file can meet. Each must have been seen.
-const NUMBERS: [u32; 7] = [2, 10, 11, 12, 13, 14, 15];
+const NUMBERS: [u32; 8] = [2, 10, 11, 12, 13, 14, 15, 16];
 
 /// The longest piece of a line that is shown.
 const SHOWN: usize = 120;
@@ -123,7 +123,7 @@ mod tests {
         tally.add(&[], 11);
         assert!(!tally.is_whole());
         let text = "1 files, 0 accepted, refused: 2 x 0, 10 x 0, 11 x 1, 12 x 0, 13 x 0, \
-                    14 x 0, 15 x 0; total bytes compared 11";
+                    14 x 0, 15 x 0, 16 x 0; total bytes compared 11";
         assert_eq!(tally.to_string(), text);
         for number in NUMBERS {
             tally.refused.insert(number, 1);

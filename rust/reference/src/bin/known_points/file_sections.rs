@@ -33,7 +33,7 @@ const FIRST_CASES: [Case; 24] = [
     [96, 4, 32, 4, 32],
     [96, 4, 33, 4, 33],
     [96, 4, 4_294_967_295, 4, 4_294_967_295],
-    [96, 8, 1, 8, 1],
+    [96, 16, 1, 16, 1],
     [96, 28, 16_777_216, 28, 16_777_216],
     [96, 32, 5, 32, 5],
     [96, 32, 3, 32, 3],
@@ -56,8 +56,8 @@ const EDGES: [u32; 5] = [1_000_000, 1_000_001, 4_293_967_296, 4_293_967_295, 2_1
 const EXTENTS: [u32; 5] = [0, 1, 1_000_000, 1_000_001, 4_294_967_295];
 
 const TWO_FAULTS: [Case; 14] = [
-    [96, 4, 33, 8, 1],
-    [96, 8, 1, 32, 5],
+    [96, 4, 33, 16, 1],
+    [96, 16, 1, 32, 5],
     [96, 4, 0, 0, 3],
     [96, 32, 5, 60, 4_097],
     [96, 32, 5, 44, 0],
@@ -69,11 +69,41 @@ const TWO_FAULTS: [Case; 14] = [
     [96, 0, 2, 44, 0],
     [96, 32, 0, 92, 4_097],
     [96, 64, 5, 92, 4_097],
-    [40, 4, 33, 8, 1],
+    [40, 4, 33, 16, 1],
 ];
 
-const LISTED: [Case; 4] =
-    [[96, 0, 1, 0, 1], [96, 0, 0, 0, 0], [96, 32, 1, 32, 1], [96, 32, 0, 36, 4_294_966_796]];
+/// The reader's field at its limits, and beside other faults.
+const FIELD_CASES: [Case; 20] = [
+    [96, 8, 1, 12, 1],
+    [96, 8, 300, 12, 400],
+    [96, 8, 301, 12, 400],
+    [96, 8, 300, 12, 401],
+    [96, 8, 4_294_967_295, 12, 0],
+    [96, 8, 0, 12, 4_294_967_295],
+    [96, 8, 400, 12, 300],
+    [96, 0, 0, 8, 4_294_967_295],
+    [96, 32, 0, 8, 301],
+    [96, 32, 0, 8, 1_001],
+    [96, 8, 1_001, 44, 0],
+    [96, 8, 1_001, 60, 4_097],
+    [96, 8, 301, 60, 4_097],
+    [96, 8, 1_001, 32, 5],
+    [96, 0, 3, 8, 1_001],
+    [96, 64, 1, 8, 301],
+    [96, 64, 1, 8, 300],
+    [96, 8, 1_001, 16, 1],
+    [96, 4, 33, 8, 1_001],
+    [40, 8, 1_001, 12, 1_001],
+];
+
+const LISTED: [Case; 6] = [
+    [96, 0, 1, 0, 1],
+    [96, 0, 0, 0, 0],
+    [96, 32, 1, 32, 1],
+    [96, 32, 0, 36, 4_294_966_796],
+    [96, 8, 200, 12, 100],
+    [96, 8, 300, 12, 400],
+];
 
 pub fn all(output: &mut impl Write) -> io::Result<()> {
     files_section(output)?;
@@ -87,7 +117,8 @@ fn files_section(output: &mut impl Write) -> io::Result<()> {
     let with_words =
         LIMITS.iter().flat_map(|&(at, words)| words.iter().map(move |&word| (at, word)));
     let limit_cases = with_words.map(|(at, word)| [96, at, word, at, word]);
-    for case in FIRST_CASES.into_iter().chain(limit_cases).chain(TWO_FAULTS) {
+    let cases = FIRST_CASES.into_iter().chain(limit_cases).chain(TWO_FAULTS).chain(FIELD_CASES);
+    for case in cases {
         let [length, at, word, at_2, word_2] = case;
         write!(output, "{length} {at} {word} {at_2} {word_2} ")?;
         answer(output, &changed(case))?;

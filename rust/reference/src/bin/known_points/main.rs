@@ -1,6 +1,6 @@
-//! Prints points, checks, queries, fills, walks, unit numbers, positions,
-//! answers to region files, listings and sheets, to be compared byte by byte
-//! with the output of another program.
+//! Prints points, checks, queries, fills, walks, unit numbers, positions with
+//! and without a field, answers to region files, listings and sheets, to be
+//! compared byte by byte with the output of another program.
 
 #![forbid(unsafe_code)]
 

@@ -1,9 +1,9 @@
-//! The sections on unit numbers, positions and singles along a walk.
+//! The sections on unit numbers, positions, fields and singles along a walk.
 
 use std::io::{self, Write};
 
 use reference::pair::{Pair, Point, Shift, NO_SHIFT};
-use reference::stage::Region;
+use reference::stage::{Field, Region};
 use reference::unit::{double, single, Singles};
 use reference::walk::{Step, Walk};
 
@@ -17,6 +17,7 @@ pub fn all(output: &mut impl Write) -> io::Result<()> {
     let region = Region { left: -1_000_000, top: 1_000_000, width: 1_000_000, height: 999_983 };
     visits_section(output, region, SHIFT)?;
     positions_section(output)?;
+    fields_section(output)?;
     steps_section(output)
 }
 
@@ -30,6 +31,7 @@ fn units_section(output: &mut impl Write) -> io::Result<()> {
     Ok(())
 }
 
+/// The visits have the field of older files, which counts as 1 by 1.
 fn visits_section(output: &mut impl Write, region: Region, shift: Shift) -> io::Result<()> {
     let Region { left, top, width, height } = region;
     writeln!(output, "visits {left} {top} {width} {height} {} {}", shift.x, shift.y)?;
@@ -37,15 +39,20 @@ fn visits_section(output: &mut impl Write, region: Region, shift: Shift) -> io::
     for index in 0..1024 {
         let point = pair.point(index, shift);
         write!(output, "{index} ")?;
-        position_fields(output, region, point)?;
+        position_fields(output, region, Field { width: 0, height: 0 }, point)?;
         writeln!(output, " {}", single_fields(point))?;
     }
     Ok(())
 }
 
 /// The position, or its refusal.
-fn position_fields(output: &mut impl Write, region: Region, point: Point) -> io::Result<()> {
-    match region.position(point) {
+fn position_fields(
+    output: &mut impl Write,
+    region: Region,
+    field: Field,
+    point: Point,
+) -> io::Result<()> {
+    match region.position(field, point) {
         Ok(position) => write!(output, "{} {}", position.x, position.y),
         Err(refusal) => write!(output, "{refusal}"),
     }
@@ -81,7 +88,48 @@ fn positions_section(output: &mut impl Write) -> io::Result<()> {
     writeln!(output, "positions")?;
     for (left, top, width, height, x, y) in POSITIONS {
         write!(output, "{left} {top} {width} {height} {x} {y} ")?;
-        position_fields(output, Region { left, top, width, height }, Point { x, y })?;
+        let (region, field) = (Region { left, top, width, height }, Field { width: 1, height: 1 });
+        position_fields(output, region, field, Point { x, y })?;
+        writeln!(output)?;
+    }
+    Ok(())
+}
+
+/// Left, top, width and height of a region, width and height of the field, and
+/// both words.
+type FieldCase = (i32, i32, u32, u32, u32, u32, u32, u32);
+
+/// Fields that fit, fields too large, and regions outside their limits.
+const FIELDS: [FieldCase; 20] = [
+    (0, 0, 1000, 1000, 200, 200, 3_221_225_472, 3_221_225_472),
+    (-500, 0, 1000, 800, 200, 100, 3_221_225_472, 2_147_483_648),
+    (-500, 0, 1000, 800, 100, 200, 3_221_225_472, 2_147_483_648),
+    (-500, 0, 1000, 800, 0, 1, 4_294_967_295, 4_294_967_295),
+    (-500, 0, 1000, 800, 1, 0, 4_294_967_295, 4_294_967_295),
+    (-500, 0, 1000, 800, 2, 2, 4_294_967_295, 4_294_967_295),
+    (-500, 0, 1000, 800, 1000, 800, 4_294_967_295, 4_294_967_295),
+    (-500, 0, 1000, 800, 999, 799, 2_147_483_648, 2_147_483_647),
+    (-1_000_000, 1_000_000, 1_000_000, 1_000_000, 1_000_000, 1, 4_294_967_295, 4_294_967_295),
+    (-1, -1, 4, 4, 2, 2, 1_431_655_766, 1_431_655_765),
+    (0, 0, 1, 1, 0, 1, 4_294_967_295, 0),
+    (-500, 0, 1000, 800, 1001, 800, 0, 0),
+    (-500, 0, 1000, 800, 1000, 801, 0, 0),
+    (-500, 0, 1000, 800, 4_294_967_295, 0, 0, 0),
+    (-500, 0, 1000, 800, 0, 4_294_967_295, 0, 0),
+    (-500, 0, 1000, 800, 800, 1000, 0, 0),
+    (-500, 0, 0, 800, 1, 1, 0, 0),
+    (-500, 0, 0, 800, 4_294_967_295, 4_294_967_295, 0, 0),
+    (1_000_001, 0, 1000, 800, 1001, 801, 0, 0),
+    (0, 0, 1_000_001, 1, 1_000_001, 1, 0, 0),
+];
+
+fn fields_section(output: &mut impl Write) -> io::Result<()> {
+    writeln!(output, "fields")?;
+    for (left, top, width, height, field_width, field_height, x, y) in FIELDS {
+        write!(output, "{left} {top} {width} {height} {field_width} {field_height} {x} {y} ")?;
+        let region = Region { left, top, width, height };
+        let field = Field { width: field_width, height: field_height };
+        position_fields(output, region, field, Point { x, y })?;
         writeln!(output)?;
     }
     Ok(())
