@@ -23,7 +23,7 @@ extern "C" {
 
 /* The number of this interface. It goes up with every change of a call, a lent struct or an answer, and with every new call, so that a program
  * compiled with this header can tell whether it runs with the library that belongs to it: vektrid_abi() == VEKTRID_ABI. */
-#define VEKTRID_ABI 2
+#define VEKTRID_ABI 3
 uint32_t vektrid_abi(void);
 
 enum vektrid_refusal { /* docs/REFUSALS.md says exactly when each is given */
@@ -39,10 +39,11 @@ enum vektrid_refusal { /* docs/REFUSALS.md says exactly when each is given */
     VEKTRID_INDEX_RANGE = 9,     /* start + count is above 2^32 */
     VEKTRID_REGION = 10,         /* an edge or an extent of a region is outside its limits */
     VEKTRID_FILE_LENGTH = 11,    /* a file is empty, over 65,536 bytes, or not whole records of 32 bytes */
-    VEKTRID_RESERVED_BYTES = 12, /* bytes 8 to 31 of record 0 are not all zero */
+    VEKTRID_RESERVED_BYTES = 12, /* bytes 16 to 31 of record 0 are not all zero */
     VEKTRID_MISSING_RECORD = 13, /* the chain names a record that the file lacks */
     VEKTRID_CHAIN_RETURNS = 14,  /* the chain returns to a record */
-    VEKTRID_VISIT_COUNT = 15     /* a record has more than 4,096 visits */
+    VEKTRID_VISIT_COUNT = 15,    /* a record has more than 4,096 visits */
+    VEKTRID_FIELD = 16           /* the reader's field is wider or higher than a region */
 };
 
 /* ---- pairs */
@@ -104,9 +105,14 @@ uint32_t vektrid_point_singles(const uint32_t *words, size_t count, uint32_t shi
 
 /* ---- the stage */
 
-/* Where the point with coordinate words x and y lies in a region, in micrometres, y downwards: left + floor(x * width / 2^32), and likewise
- * from top. 0, or 10 unless left and top are -1,000,000 to 1,000,000 and width and height 1 to 1,000,000. */
-uint32_t vektrid_position(int32_t left, int32_t top, uint32_t width, uint32_t height, uint32_t x, uint32_t y, int32_t *at_x, int32_t *at_y);
+/* Where the corner of the reader's field stands in a region for the point with coordinate words x and y, in micrometres, y downwards:
+ * left + floor(x * (width - F + 1) / 2^32), F being field_width, and likewise from top with field_height. A field_width or field_height of 0
+ * counts as 1. The whole field then lies in the region: left <= *at_x and *at_x + F <= left + width, and likewise down.
+ *
+ * 0, or the first refusal that applies: 10 unless left and top are -1,000,000 to 1,000,000 and width and height 1 to 1,000,000; 16 where
+ * field_width is above width, or field_height above height. */
+uint32_t vektrid_position(int32_t left, int32_t top, uint32_t width, uint32_t height, uint32_t field_width, uint32_t field_height, uint32_t x,
+                          uint32_t y, int32_t *at_x, int32_t *at_y);
 
 /* ---- region files */
 
@@ -125,7 +131,7 @@ typedef struct vektrid_sheet_cursor {
     uint32_t words[14];
 } vektrid_sheet_cursor;
 
-/* Judges a whole file: 0, or the first refusal that applies, in the order 11, 2, 12, and then at each link of the chain 13, 14, 10, 15. */
+/* Judges a whole file: 0, or the first refusal that applies, in the order 11, 2, 12, and then at each link of the chain 13, 14, 10, 16, 15. */
 uint32_t vektrid_judge(const uint8_t *file, size_t size);
 
 /* The same judgement, and of a refused file also where it stopped: *holder is the record that holds the link at which it stopped, *named the
@@ -135,8 +141,8 @@ uint32_t vektrid_judge_link(const uint8_t *file, size_t size, uint32_t *holder, 
 /* The walk before the first visit of a file: 0, or the refusal of the file as vektrid_judge gives it. */
 uint32_t vektrid_file_walk_open(const uint8_t *file, size_t size, vektrid_file_walk *walk);
 
-/* The next visit: *given is 1, and the number of its record in the file, its index in that record and its position are written; or *given is
- * 0 at the end, and those four keep what they held. *walk moves past the visit. */
+/* The next visit: *given is 1, and the number of its record in the file, its index in that record and its position are written, the position
+ * for the field that record 0 of the file holds; or *given is 0 at the end, and those four keep what they held. *walk moves past the visit. */
 void vektrid_file_walk_step(const uint8_t *file, size_t size, vektrid_file_walk *walk, uint32_t *given, uint32_t *record_number,
                             uint32_t *index, int32_t *at_x, int32_t *at_y);
 

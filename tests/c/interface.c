@@ -13,7 +13,7 @@
 #define BYTE_KEPT 0xA5u
 
 static unsigned checks, failures;
-static unsigned refused[16]; /* how often each refusal was given where it is due */
+static unsigned refused[17]; /* how often each refusal was given where it is due */
 
 static int check(int holds, const char *claim, const char *file, int line) {
     checks++;
@@ -369,19 +369,70 @@ static void unit_numbers(void) {
     }
 }
 
-static void positions(void) {
+static void refused_positions(void) {
     int32_t x = 77, y = 77;
-    REFUSES(10, vektrid_position(0, 0, 0, 800, 1, 1, &x, &y));
-    REFUSES(10, vektrid_position(0, 0, 1000, 0, 1, 1, &x, &y));
-    REFUSES(10, vektrid_position(0, 0, 1000001u, 1, 1, 1, &x, &y));
-    REFUSES(10, vektrid_position(0, 0, 1, LAST, 1, 1, &x, &y));
-    REFUSES(10, vektrid_position(-1000001, 0, 1, 1, 1, 1, &x, &y));
-    REFUSES(10, vektrid_position(0, INT32_MIN, 1, 1, 1, 1, &x, &y));
-    REFUSES(10, vektrid_position(0, 1000001, 1, 1, 1, 1, &x, &y));
+    REFUSES(10, vektrid_position(0, 0, 0, 800, 0, 0, 1, 1, &x, &y));
+    REFUSES(10, vektrid_position(0, 0, 1000, 0, 0, 0, 1, 1, &x, &y));
+    REFUSES(10, vektrid_position(0, 0, 1000001u, 1, 0, 0, 1, 1, &x, &y));
+    REFUSES(10, vektrid_position(0, 0, 1, LAST, 0, 0, 1, 1, &x, &y));
+    REFUSES(10, vektrid_position(-1000001, 0, 1, 1, 0, 0, 1, 1, &x, &y));
+    REFUSES(10, vektrid_position(0, INT32_MIN, 1, 1, 0, 0, 1, 1, &x, &y));
+    REFUSES(10, vektrid_position(0, 1000001, 1, 1, 0, 0, 1, 1, &x, &y));
+    REFUSES(16, vektrid_position(0, 0, 1000, 800, 1001, 800, 1, 1, &x, &y));
+    REFUSES(16, vektrid_position(0, 0, 1000, 800, 1000, 801, 1, 1, &x, &y));
+    REFUSES(16, vektrid_position(0, 0, 1000, 800, 0, 801, 1, 1, &x, &y));
+    REFUSES(16, vektrid_position(0, 0, 1000, 800, 1001, 0, 0, 0, &x, &y));
+    REFUSES(16, vektrid_position(0, 0, 1, 1, 2, 1, LAST, LAST, &x, &y));
+    /* extent - F + 1 does not wrap */
+    REFUSES(16, vektrid_position(0, 0, 1000000, 1000000, LAST, 1, 1, 1, &x, &y));
+    REFUSES(16, vektrid_position(0, 0, 1000000, 1000000, 1, LAST, 1, 1, &x, &y));
+    REFUSES(16, vektrid_position(0, 0, 1, 1, LAST, LAST, LAST, LAST, &x, &y));
+    /* the field is too large as well, and the region is judged first */
+    REFUSES(10, vektrid_position(0, 0, 0, 800, 1, 801, 1, 1, &x, &y));
+    REFUSES(10, vektrid_position(1000001, 0, 1000, 800, LAST, LAST, 1, 1, &x, &y));
+    REFUSES(10, vektrid_position(0, 0, 1000001, 800, 1000002, 801, 1, 1, &x, &y));
     CHECK(x == 77 && y == 77);
-    CHECK(vektrid_position(-500, 0, 1000, 800, 0x40000000u, 0xC0000000u, &x, &y) == 0 && x == -250 && y == 600);
-    CHECK(vektrid_position(-1, 0, 3, 1, 0x40000000u, LAST, &x, &y) == 0 && x == -1 && y == 0); /* the floor, and not cut toward zero */
-    CHECK(vektrid_position(1000000, -1000000, 1000000, 1000000, LAST, LAST, &x, &y) == 0 && x == 1999999 && y == -1);
+}
+
+static void known_positions(void) {
+    int32_t x = 77, y = 77;
+    CHECK(vektrid_position(-500, 0, 1000, 800, 0, 0, 0x40000000u, 0xC0000000u, &x, &y) == 0 && x == -250 && y == 600);
+    CHECK(vektrid_position(-1, 0, 3, 1, 0, 0, 0x40000000u, LAST, &x, &y) == 0 && x == -1 && y == 0); /* the floor, and not cut toward zero */
+    CHECK(vektrid_position(1000000, -1000000, 1000000, 1000000, 0, 0, LAST, LAST, &x, &y) == 0 && x == 1999999 && y == -1);
+    /* the example of C-12: 600 right of the edge */
+    CHECK(vektrid_position(-500, 0, 1000, 800, 200, 100, 0xC0000000u, 0xC0000000u, &x, &y) == 0 && x == 100 && y == 525);
+    /* a field as large as the region has one place, the edge; one smaller has two */
+    CHECK(vektrid_position(1000000, -1000000, 1000000, 1000000, 1000000, 1000000, LAST, LAST, &x, &y) == 0 && x == 1000000 && y == -1000000);
+    CHECK(vektrid_position(1000000, -1000000, 1000000, 1000000, 999999, 999999, LAST, LAST, &x, &y) == 0 && x == 1000001 && y == -999999);
+    CHECK(vektrid_position(1000000, -1000000, 1000000, 1000000, 999999, 999999, 0x7FFFFFFFu, 0x80000000u, &x, &y) == 0);
+    CHECK(x == 1000000 && y == -999999);
+    CHECK(vektrid_position(-7, 9, 1, 1, 0, 1, LAST, LAST, &x, &y) == 0 && x == -7 && y == 9);
+}
+
+/* The position on one axis by its definition. */
+static int32_t place_of(int32_t edge, uint32_t extent, uint32_t field, uint32_t word) {
+    uint32_t places = extent - (field == 0 ? 1 : field) + 1;
+    return edge + (int32_t)((uint64_t)word * places >> 32);
+}
+
+/* Fields of every size in regions of every size: where the field fits, its corner is by the definition and the whole field lies inside; where it
+ * does not, nothing is written. */
+static void fields(void) {
+    static const uint32_t sizes[12] = {0, 1, 2, 3, 199, 200, 201, 65535, 65536, 999999, 1000000, LAST};
+    static const uint32_t words[6] = {0, 1, 0x7FFFFFFFu, 0x80000000u, 0xC0000000u, LAST};
+    for (int e = 1; e < 11; e++)
+        for (int f = 0; f < 12; f++)
+            for (int w = 0; w < 6; w++) {
+                uint32_t width = sizes[e], height = sizes[11 - e], field_width = sizes[f], field_height = sizes[11 - f];
+                int fits = field_width <= width && field_height <= height;
+                int32_t x = 77, y = 77;
+                uint32_t answer = vektrid_position(-900, 123, width, height, field_width, field_height, words[w], words[5 - w], &x, &y);
+                CHECK(answer == (fits ? 0u : 16u));
+                CHECK(x == (fits ? place_of(-900, width, field_width, words[w]) : 77));
+                CHECK(y == (fits ? place_of(123, height, field_height, words[5 - w]) : 77));
+                CHECK(!fits || (x >= -900 && (int64_t)x + (field_width == 0 ? 1 : field_width) <= -900 + (int64_t)width));
+                CHECK(!fits || (y >= 123 && (int64_t)y + (field_height == 0 ? 1 : field_height) <= 123 + (int64_t)height));
+            }
 }
 
 /* ---- region files */
@@ -420,12 +471,14 @@ static const struct change changes[] = {
     {4, 32, 64, 0, KEPT, KEPT},             /* the largest level */
     {36, 1000000, 64, 0, KEPT, KEPT},       /* the furthest left edge */
     {60, 4096, 64, 0, KEPT, KEPT},          /* the most visits */
+    {8, 1000, 64, 0, KEPT, KEPT},           /* a field as wide as the region */
+    {12, 800, 64, 0, KEPT, KEPT},           /* a field as high */
     {0, 1, 40, 11, 0, 0},                   /* not whole records */
     {0, 1, 0, 11, 0, 0},                    /* empty */
     {0, 0, 65568, 11, 0, 0},                /* a record too long */
     {4, 33, 64, 2, 0, 0},                   /* level */
     {4, 0, 64, 2, 0, 0},                    /* level */
-    {8, 1, 64, 12, 0, 0},                   /* byte 8 */
+    {16, 1, 64, 12, 0, 0},                  /* byte 16 */
     {28, 0x01000000, 64, 12, 0, 0},         /* byte 31 */
     {32, 5, 64, 13, 1, 5},                  /* next record */
     {32, LAST, 64, 13, 1, LAST},            /* next record */
@@ -437,6 +490,10 @@ static const struct change changes[] = {
     {40, (uint32_t)-1000001, 64, 10, 0, 1}, /* top */
     {60, 4097, 64, 15, 0, 1},               /* visits */
     {60, LAST, 64, 15, 0, 1},               /* visits */
+    {8, 1001, 64, 16, 0, 1},                /* the width of the field */
+    {8, LAST, 64, 16, 0, 1},                /* the width of the field */
+    {12, 801, 64, 16, 0, 1},                /* its height */
+    {12, LAST, 64, 16, 0, 1},               /* its height */
 };
 
 /* An accepted file leaves both words of the link as they were, and a refused one leaves the words of the walk so. */
@@ -455,34 +512,39 @@ static void files(void) {
     }
 }
 
-/* Several things wrong: 11, 2, 12, then at each link 13, 14, 10, 15. */
+/* Several things wrong: 11, 2, 12, then at each link 13, 14, 10, 16, 15. */
 static void order_of_files(void) {
     put_example();
     put(60, 4097);
     REFUSES(15, vektrid_judge(file, 64));
+    put(8, 1001);
+    REFUSES(16, vektrid_judge(file, 64));
     put(44, 0);
     REFUSES(10, vektrid_judge(file, 64));
     put(32, 1);
     REFUSES(10, vektrid_judge(file, 64)); /* record 1 is judged at the link of record 0, before its own link */
     put(0, 7);
     REFUSES(13, vektrid_judge(file, 64));
-    put(8, 1);
+    put(16, 1);
     REFUSES(12, vektrid_judge(file, 64));
     put(4, 0);
     REFUSES(2, vektrid_judge(file, 64));
     REFUSES(11, vektrid_judge(file, 63));
 }
 
-/* A chain through record 3, then 1, then 2, with one field of record 2 changed: its answer and the link. */
+/* A chain through record 3, then 1, then 2, with one number of record 2 changed: its answer and the link. The reader's field is 200 by 100. */
 static void links_of_files(void) {
     static const struct change last[] = {
-        {64, 0, 128, 0, KEPT, KEPT}, /* the end of the chain */
-        {64, 9, 128, 13, 2, 9},      /* a record that is not there */
-        {64, 4, 128, 13, 2, 4},      /* the first number without a record */
-        {64, 3, 128, 14, 2, 3},      /* back to the first record of the chain */
-        {64, 2, 128, 14, 2, 2},      /* back to itself */
-        {76, 0, 128, 10, 1, 2},      /* its width */
-        {92, 4097, 128, 15, 1, 2},   /* its visits */
+        {64, 0, 128, 0, KEPT, KEPT},   /* the end of the chain */
+        {64, 9, 128, 13, 2, 9},        /* a record that is not there */
+        {64, 4, 128, 13, 2, 4},        /* the first number without a record */
+        {64, 3, 128, 14, 2, 3},        /* back to the first record of the chain */
+        {64, 2, 128, 14, 2, 2},        /* back to itself */
+        {76, 0, 128, 10, 1, 2},        /* its width */
+        {92, 4097, 128, 15, 1, 2},     /* its visits */
+        {76, 200, 128, 0, KEPT, KEPT}, /* as wide as the reader's field */
+        {76, 199, 128, 16, 1, 2},      /* less wide */
+        {80, 99, 128, 16, 1, 2},       /* less high */
     };
     for (size_t i = 0; i < sizeof last / sizeof last[0]; i++) {
         uint32_t holder = KEPT, named = KEPT;
@@ -490,6 +552,8 @@ static void links_of_files(void) {
         memcpy(file + 64, file + 32, 32);
         memcpy(file + 96, file + 32, 32);
         put(0, 3);
+        put(8, 200);
+        put(12, 100);
         put(96, 1);
         put(32, 2);
         put(last[i].at, last[i].value);
@@ -498,12 +562,14 @@ static void links_of_files(void) {
     }
 }
 
-static void visits(void) {
-    static const int32_t at[4][2] = {{-500, 0}, {0, 400}, {-250, 600}, {250, 200}};
+/* The visits of the example with a field in record 0. */
+static void visits(uint32_t field_width, uint32_t field_height, const int32_t at[4][2]) {
     vektrid_file_walk walk;
     uint32_t given = KEPT, record = KEPT, index = KEPT;
     int32_t x = 77, y = 77;
     put_example();
+    put(8, field_width);
+    put(12, field_height);
     CHECK(vektrid_file_walk_open(file, 64, &walk) == 0);
     for (uint32_t n = 0; n < 7; n++) {
         uint32_t last = n < 4 ? n : 3; /* the visit given last, which a step at the end leaves there */
@@ -515,6 +581,19 @@ static void visits(void) {
     }
 }
 
+static void visits_of_fields(void) {
+    static const int32_t without[4][2] = {{-500, 0}, {0, 400}, {-250, 600}, {250, 200}};
+    static const int32_t with[4][2] = {{-500, 0}, {-100, 350}, {-300, 525}, {100, 175}};
+    static const int32_t at_the_edge[4][2] = {{-500, 0}, {-500, 0}, {-500, 0}, {-500, 0}};
+    visits(0, 0, without);
+    visits(1, 0, without);
+    visits(0, 1, without);
+    visits(1, 1, without);
+    visits(200, 100, with);
+    visits(1000, 800, at_the_edge);
+}
+
+/* A chain without records is accepted whatever the field is, and a record off the chain is not judged. */
 static void visits_of_none(void) {
     vektrid_file_walk walk;
     uint32_t out[3]; /* given, record, index */
@@ -522,6 +601,8 @@ static void visits_of_none(void) {
     keep(out, 3);
     put_example();
     put(0, 0); /* a chain without records */
+    put(8, LAST);
+    put(12, LAST);
     CHECK(vektrid_file_walk_open(file, 64, &walk) == 0);
     vektrid_file_walk_step(file, 64, &walk, &out[0], &out[1], &out[2], &x, &y);
     CHECK(out[0] == 0 && all_kept(out + 1, 2) && x == 77 && y == 77);
@@ -610,6 +691,21 @@ static void text_without_room(enum text of, const char *first_line) {
 static void listings(void) {
     texts(LISTING, example_listing, "record visit x y\n");
     text_without_room(LISTING, "record visit x y\n");
+}
+
+/* Two records under one field: the second is as high as the field, and its first visit is as far right as the field can go. */
+static void listing_with_a_field(void) {
+    static const uint32_t second[8] = {0, 2000, (uint32_t)-75, 640, 100, LAST, 0, 2};
+    static const char *const expected = "record visit x y\n1 0 -500 0\n1 1 -100 350\n1 2 -300 525\n1 3 100 175\n2 0 2440 -75\n2 1 2220 -75\n";
+    char text[2048];
+    put_example();
+    put(8, 200);
+    put(12, 100);
+    put(32, 2);
+    for (size_t i = 0; i < 8; i++)
+        put(64 + 4 * i, second[i]);
+    for (size_t room = 46; room <= 128; room++)
+        CHECK(whole(LISTING, 96, room, text, sizeof text) == strlen(expected) && strcmp(text, expected) == 0);
 }
 
 /* ---- sheets: lines of 27 columns and a line feed, 50 of them a page */
@@ -776,20 +872,23 @@ int main(void) {
     refused_queries();
     all_small_cells();
     unit_numbers();
-    positions();
+    refused_positions();
+    known_positions();
+    fields();
     files();
     order_of_files();
     links_of_files();
-    visits();
+    visits_of_fields();
     visits_of_none();
     listings();
+    listing_with_a_field();
     sheets();
     sheets_of_many_visits();
     copied_sheet_cursor();
     words_of_sheet_cursors();
     sizes();
     any_content();
-    for (int number = 1; number <= 15; number++)
+    for (int number = 1; number <= 16; number++)
         CHECK(refused[number] > 0);
     printf("interface.c: %u checks, %u failed\n", checks, failures);
     return failures == 0 ? 0 : 1;
