@@ -92,8 +92,13 @@ def read_back(text):
     return 'record visit x y\n' + ''.join(' '.join(each) + '\n' for each in fields)
 
 
-def head(first, level, reserved=bytes(24)):
-    return struct.pack('<II', first, level) + reserved
+def place_of(edge, extent, size, word):
+    """A position on one axis: edge + floor(word * (extent - F + 1) / 2^32), F being the size of the field, of which 0 counts as 1."""
+    return edge + math.floor(Fraction(word * (extent - max(size, 1) + 1), 2**32))
+
+
+def head(first, level, field=(0, 0), reserved=bytes(16)):
+    return struct.pack('<IIII', first, level, *field) + reserved
 
 
 def record(following, left=-500, top=0, width=1000, height=800, x_shift=0, y_shift=0, count=4):
@@ -181,7 +186,17 @@ class RefusalTable(unittest.TestCase):
                 values[place] = value
                 self.refused(vektrid.RegionLimits, 10, [f'{name} = {value}'], lambda: vektrid.Region(*values))
 
-    def test_10_to_15_files(self):
+    def test_16_field(self):
+        region = vektrid.Region(-500, 0, 1000, 800)
+        for field in ((1001, 1), (1, 801), (1001, 801), (0, 801), (1001, 0), (LAST, 1), (1, LAST), (LAST, LAST)):
+            shown = [f'the field is {field[0]} by {field[1]} micrometres', 'the region 1000 by 800']
+            for x, y in ((0, 0), (LAST, LAST)):
+                refusal = self.refused(vektrid.Field, 16, shown, lambda: region.position(x, y, field))
+                self.assertEqual((refusal.holder, refusal.named), (None, None))
+        largest = vektrid.Region(0, 0, 1000000, 1000000)
+        self.refused(vektrid.Field, 16, [LAST], lambda: largest.position(0, 0, (LAST, LAST)))  # it does not wrap
+
+    def test_10_to_16_files(self):
         wrong = dict(left=-1000001, top=5, width=6, height=7, count=4097)  # all different, so that the message must name each rightly
         for kind, number, link, values, file in [
                 (vektrid.Level, 2, (0, 0), ['level = 33'], head(1, 33) + record(0)),
@@ -191,15 +206,20 @@ class RefusalTable(unittest.TestCase):
                 (vektrid.FileLength, 11, (0, 0), [40], EXAMPLE[:40]),
                 (vektrid.FileLength, 11, (0, 0), [0], b''),
                 (vektrid.FileLength, 11, (0, 0), [65568], head(0, 1) + bytes(65536)),
-                (vektrid.ReservedBytes, 12, (0, 0), ['byte 8', 'is 1'], head(1, 2, b'\1' + bytes(23)) + record(0)),
-                (vektrid.ReservedBytes, 12, (0, 0), ['byte 31', 'is 9'], head(1, 2, bytes(23) + b'\x09') + record(0)),
+                (vektrid.ReservedBytes, 12, (0, 0), ['byte 16', 'is 1'], head(1, 2, (0, 0), b'\1' + bytes(15)) + record(0)),
+                (vektrid.ReservedBytes, 12, (0, 0), ['byte 31', 'is 9'], head(1, 2, (200, 100), bytes(15) + b'\x09') + record(0)),
                 (vektrid.MissingRecord, 13, (1, 5), ['record 1', 'record 5', 'file is 1'], head(1, 2) + record(5)),
                 (vektrid.MissingRecord, 13, (0, 2), ['record 0', 'record 2', 'file is 1'], head(2, 2) + record(0)),
                 (vektrid.MissingRecord, 13, (0, LAST), ['record 0', LAST, 'file is 0'], head(LAST, 2)),
                 (vektrid.ChainReturns, 14, (1, 1), ['record 1 names record 1'], head(1, 2) + record(1)),
                 (vektrid.ChainReturns, 14, (3, 2), ['record 3 names record 2'], head(1, 2) + record(2) + record(3) + record(2)),
                 (vektrid.VisitCount, 15, (0, 1), ['record 1', 4097], head(1, 2) + record(0, count=4097)),
-                (vektrid.VisitCount, 15, (2, 1), ['record 1', LAST], head(2, 2) + record(9, count=LAST) + record(1))]:
+                (vektrid.VisitCount, 15, (2, 1), ['record 1', LAST], head(2, 2) + record(9, count=LAST) + record(1)),
+                (vektrid.Field, 16, (0, 1), ['record 1', 'the field is 1001 by 0', 'the region 1000 by 800'], head(1, 2, (1001, 0)) + record(0)),
+                (vektrid.Field, 16, (0, 1), ['record 1', 'the field is 1 by 801', 'the region 1000 by 800'], head(1, 2, (1, 801)) + record(0)),
+                (vektrid.Field, 16, (0, 1), ['record 1', LAST], head(1, 2, (LAST, LAST)) + record(0)),
+                (vektrid.Field, 16, (3, 2), ['record 2', 'the field is 70 by 60', 'the region 69 by 600'],
+                 head(3, 2, (70, 60)) + record(0) + record(9, width=69, height=600) + record(2))]:
             with self.subTest(number=number, file=file[:96]):
                 for call in (vektrid.judge, vektrid.visits, vektrid.sheet_pages):  # at the call, not at the first visit or page
                     refusal = self.refused(kind, number, values, lambda: call(file))
@@ -215,21 +235,24 @@ class RefusalTable(unittest.TestCase):
             self.assertEqual((refusal.holder, refusal.named), (None, None))
 
     def test_one_class_for_each_number(self):
-        self.assertEqual(sorted(kind.number for kind in vektrid.Refusal.__subclasses__()), list(range(1, 16)))
+        self.assertEqual(sorted(kind.number for kind in vektrid.Refusal.__subclasses__()), list(range(1, 17)))
         self.assertTrue(issubclass(vektrid.Refusal, ValueError))
 
     def test_message(self):
         for kind, given, message in [
                 (vektrid.Shape, dict(m=2, a=3), 'refusal 5: a is above m: a = 3, m = 2'),
                 (vektrid.MissingRecord, dict(holder=1, named=5, last=1),
-                 'refusal 13: the chain names a record that the file lacks: record 1 names record 5, and the last record of the file is 1')]:
+                 'refusal 13: the chain names a record that the file lacks: record 1 names record 5, and the last record of the file is 1'),
+                (vektrid.Field, dict(where='record 1: ', field_width=1001, field_height=0, width=1000, height=800),
+                 "refusal 16: the reader's field is wider or higher than a region: record 1: the field is 1001 by 0 micrometres (0 counts as 1), "
+                 'and the region 1000 by 800')]:
             self.assertEqual(str(kind(**given)), message)
         with unittest.mock.patch.object(vektrid.Shape, 'details', ''):  # nothing behind the words where there are no values
             self.assertEqual(str(vektrid.Shape()), 'refusal 5: a is above m')
 
     def test_number_unknown(self):
-        with self.assertRaisesRegex(RuntimeError, '16'):
-            vektrid._accept(16)
+        with self.assertRaisesRegex(RuntimeError, '17'):
+            vektrid._accept(17)
 
 
 class RefusalOrder(unittest.TestCase):
@@ -249,12 +272,20 @@ class RefusalOrder(unittest.TestCase):
         with self.assertRaises(vektrid.BufferLengths):
             STANDARD.fill(LAST, (array.array('I', 2 * [0]), array.array('I', 3 * [0])))
 
+    def test_position(self):
+        region = vektrid.Region(0, 0, 10, 10)
+        for number, place in [(16, region), (10, region._replace(left=1000001)), (10, region._replace(width=0))]:
+            with self.assertRaises(vektrid.Refusal) as caught:
+                place.position(0, 0, field=(11, 11))
+            self.assertEqual(caught.exception.number, number)
+
     def test_file(self):
-        used = b'\1' + bytes(23)
+        wide, used = (1001, 1), b'\1' + bytes(15)
         wrong = dict(width=0, count=4097)
-        for number, file in [(15, head(1, 2) + record(9, count=4097)), (10, head(1, 2) + record(9, **wrong)), (13, head(1, 2) + record(9)),
-                             (14, head(1, 2) + record(2) + record(1) + record(0, **wrong)), (13, head(9, 2) + record(1, **wrong)),
-                             (12, head(9, 2, used)), (2, head(9, 0, used)), (11, head(9, 0, used) + b'x')]:
+        for number, file in [(15, head(1, 2) + record(9, count=4097)), (16, head(1, 2, wide) + record(9, count=4097)),
+                             (10, head(1, 2, wide) + record(9, **wrong)), (13, head(1, 2) + record(9)),
+                             (14, head(1, 2) + record(2) + record(1) + record(0, **wrong)), (13, head(9, 2, wide) + record(1, **wrong)),
+                             (12, head(9, 2, wide, used)), (2, head(9, 0, wide, used)), (11, head(9, 0, wide, used) + b'x')]:
             with self.assertRaises(vektrid.Refusal) as caught:
                 vektrid.judge(file)
             self.assertEqual(caught.exception.number, number)
@@ -323,6 +354,12 @@ class WrongTurns(unittest.TestCase):
 
     def test_signed_sum_cut_toward_zero(self):
         self.assertEqual(vektrid.Region(-1, 0, 3, 1).position(0x40000000, 0), (-1, 0))
+
+    def test_field_past_the_right_edge(self):
+        # the example of C-12: 600 right of the edge, and not 750; and for the largest word the field ends where the region does
+        region = vektrid.Region(-500, 0, 1000, 800)
+        self.assertEqual(region.position(0xC0000000, 0, field=(200, 1)), (100, 0))
+        self.assertEqual(region.position(LAST, LAST, field=(200, 100)), (-500 + 1000 - 200, 800 - 100))
 
 
 # ---- points, fills, walks, queries against the definitions
@@ -594,31 +631,63 @@ class Positions(unittest.TestCase):
             for x, y in [(0, 0), (LAST, LAST)] + [(chosen.getrandbits(32), chosen.getrandbits(32)) for _ in range(10)]:
                 at = vektrid.Region(left, top, width, height).position(x, y)
                 self.assertEqual(at, (left + math.floor(Fraction(x * width, 2**32)), top + math.floor(Fraction(y * height, 2**32))))
+                for field in [(0, 0), (1, 1), (width, height), (chosen.randint(1, width), chosen.randint(1, height))]:
+                    at = vektrid.Region(left, top, width, height).position(x, y, field)
+                    self.assertEqual(at, (place_of(left, width, field[0], x), place_of(top, height, field[1], y)))
+
+    def test_whole_field_lies_in_the_region(self):
+        region = vektrid.Region(-7, 3, 21, 13)
+        for width in range(1, 22):
+            for height in range(1, 14):
+                first, last = (region.position(word, word, (width, height)) for word in (0, LAST))
+                self.assertEqual(first, (-7, 3))
+                self.assertEqual((last.x + width, last.y + height), (-7 + 21, 3 + 13))  # the last place is used, and none past it
+        self.assertEqual(region.position(LAST, LAST, (21, 13)), (-7, 3))  # one place is left, the edge
+
+    def test_field_is_given_as_any_two_numbers(self):
+        region = vektrid.Region(-500, 0, 1000, 800)
+        expected = region.position(5, LAST, (200, 100))
+        self.assertEqual(expected, (-500, 700))
+        self.assertEqual(region.position(5, LAST, field=(200, 100)), expected)
+        self.assertEqual(region.position(y=LAST, x=5, field=[200, 100]), expected)
+        for none in ((0, 0), (0, 1), (1, 0), (1, 1)):
+            self.assertEqual(region.position(LAST, LAST, none), region.position(LAST, LAST))
 
     def test_position_lies_in_its_column_but_for_the_rounding(self):
         # what docs/EXAMPLE.md says of clicks: left of the column by less than 1, never right of it, and inside where the columns are whole
         left_of_it = 0
-        for width in (1, 3, 1000, 1001, 1024):
-            region = vektrid.Region(-500, 0, width, 1)
+        for width, field_width in ((1, 1), (3, 1), (1000, 1), (1001, 1), (1024, 1), (1024, 400), (1423, 400), (400, 400)):
+            region, span = vektrid.Region(-500, 0, width, 1), width - field_width + 1
             for a in (0, 1, 3, 6):
                 for column in range(2**a):
-                    edges = [Fraction(each * width, 2**a) - 500 for each in (column, column + 1)]
+                    edges = [Fraction(each * span, 2**a) - 500 for each in (column, column + 1)]
                     for word in (column << (32 - a), ((column + 1) << (32 - a)) - 1):  # the first and the last of the column
-                        at = region.position(word, 0).x
+                        at = region.position(word, 0, (field_width, 1)).x
                         self.assertTrue(edges[0] - 1 < at < edges[1])
-                        self.assertTrue(edges[0] <= at or width % 2**a)
+                        self.assertTrue(edges[0] <= at or span % 2**a)
                         left_of_it += at < edges[0]
         self.assertGreater(left_of_it, 0)
 
     def test_click(self):
-        # each whole place of a region: its column and row name a cell, and that cell's visit lies in it
-        region, m, a, shift = vektrid.Region(-7, 3, 21, 13), 5, 2, SHIFTS[2]
-        for x in range(-7, 14):
-            for y in range(3, 16):
-                column, row = (x - region.left) * 2**a // region.width, (y - region.top) * 2**(m - a) // region.height
+        # each whole place for the corner of a field: its column and row name a cell, and that cell's visit lies in it
+        region, field, m, a, shift = vektrid.Region(-7, 3, 21, 13), (4, 3), 5, 2, SHIFTS[2]
+        span_x, span_y = region.width - field[0] + 1, region.height - field[1] + 1
+        for x in range(-7, -7 + span_x):
+            for y in range(3, 3 + span_y):
+                column, row = (x - region.left) * 2**a // span_x, (y - region.top) * 2**(m - a) // span_y
                 point = STANDARD.point(STANDARD.query(32, m, a, column, row, 0, shift), shift)
-                self.assertTrue(column * region.width <= (x - region.left) * 2**a < (column + 1) * region.width)
+                self.assertTrue(column * span_x <= (x - region.left) * 2**a < (column + 1) * span_x)
                 self.assertEqual(cell_of(point, m, a), (column, row))
+                at = region.position(*point, field)
+                self.assertTrue(column * span_x < (at.x - region.left + 1) * 2**a and (at.x - region.left) * 2**a < (column + 1) * span_x)
+
+    def test_click_where_no_corner_can_stand(self):
+        # in the last F - 1 micrometres a field would reach past the edge: the column is one that the shape lacks
+        region, m, a = vektrid.Region(-7, 3, 21, 13), 5, 2
+        span_x = region.width - 4 + 1
+        for x in range(-7 + span_x, 14):
+            with self.assertRaises(vektrid.Cell):
+                STANDARD.query(32, m, a, (x - region.left) * 2**a // span_x, 0, 0)
 
     def test_region_is_a_value(self):
         region = vektrid.Region(left=-500, top=0, width=1000, height=800)
@@ -668,6 +737,35 @@ class RegionFiles(unittest.TestCase):
         self.assertEqual(len(visits), 1100)
         for visit in visits:
             self.assertEqual(visit[2:], region.position(*vektrid.standard_point(visit.index, (0x12345678, 5))))
+
+    def test_field_of_a_file(self):
+        record_1, record_2 = record(2, count=40), record(0, 2000, -75, 640, 480, LAST, 0x12345678, 30)
+        for field in ((1, 1), (0, 150), (200, 0), (200, 150), (640, 480)):
+            file, expected = head(1, 2, field) + record_1 + record_2, []
+            for index in range(40):
+                x, y = point_of(STANDARD.words, index)
+                expected.append((1, index, place_of(-500, 1000, field[0], x), place_of(0, 800, field[1], y)))
+            for index in range(30):
+                x, y = point_of(STANDARD.words, index, (LAST, 0x12345678))
+                expected.append((2, index, place_of(2000, 640, field[0], x), place_of(-75, 480, field[1], y)))
+            self.assertEqual(list(vektrid.visits(file)), expected)
+            self.assertEqual(vektrid.listing(file), 'record visit x y\n' + ''.join('%d %d %d %d\n' % visit for visit in expected))
+            self.assertEqual(list(vektrid.sheet_pages(file)), pages_of(expected))
+
+    def test_field_of_0_counts_as_1(self):
+        for field in ((0, 1), (1, 0), (1, 1)):
+            self.assertEqual(vektrid.listing(head(1, 2, field) + record(0)), EXAMPLE_LISTING)
+            self.assertEqual(vektrid.sheet(head(1, 2, field) + record(0)), EXAMPLE_SHEET)
+
+    def test_field_as_large_as_the_region(self):
+        self.assertEqual({visit[2:] for visit in vektrid.visits(head(1, 2, (1000, 800)) + record(0, count=100))}, {(-500, 0)})
+
+    def test_field_of_a_file_without_records(self):
+        for field in ((LAST, LAST), (1000001, 0), (0, 1000001)):
+            file = head(0, 1, field)
+            self.assertIsNone(vektrid.judge(file))
+            self.assertEqual(vektrid.listing(file), 'record visit x y\n')
+            self.assertEqual(vektrid.listing(file + record(0)), 'record visit x y\n')  # a record off the chain is not judged
 
     def test_pieces(self):
         for file in (EXAMPLE, head(0, 1), EXAMPLE[:40], self.longest()):
@@ -745,6 +843,8 @@ class Arguments(unittest.TestCase):
              ('shift x', lambda value: STANDARD.query(32, 2, 1, 1, 0, 0, (value, 0))), ('word', vektrid.double), ('word', vektrid.single),
              ('words[3]', lambda value: vektrid.Pair(3 * [0] + [value] + 60 * [0])),
              ('x', lambda value: Arguments.REGION.position(value, 0)), ('y', lambda value: Arguments.REGION.position(0, value)),
+             ('field width', lambda value: Arguments.REGION.position(0, 0, (value, 1))),
+             ('field height', lambda value: Arguments.REGION.position(0, 0, field=(1, value))),
              ('width', lambda value: vektrid.Region(0, 0, value, 1)), ('height', lambda value: vektrid.Region(0, 0, 1, value)),
              ('room', lambda value: vektrid.listing_pieces(EXAMPLE, value)), ('room', lambda value: vektrid.sheet_pieces(EXAMPLE, value))]
     WORDS += [(name, lambda value, name=name: STANDARD.query(**{**Arguments.QUERY, name: value})) for name in QUERY]
@@ -772,12 +872,17 @@ class Arguments(unittest.TestCase):
         for shift in (0, (), (1,), (1, 2, 3), None):
             self.assertRaisesRegex(TypeError, 'shift', STANDARD.point, 0, shift)
 
+    def test_field_is_two_numbers(self):
+        for field in (0, 1, (), (1,), (1, 2, 3), None):
+            self.assertRaisesRegex(TypeError, 'field', self.REGION.position, 0, 0, field)
+
     def test_whole_numbers_of_other_types(self):
         class Three:
             def __index__(self):
                 return 3
         self.assertEqual(STANDARD.point(Three(), shift=[0, 0]), STANDARD.point(3))
         self.assertEqual(STANDARD.fill(0, Three()), STANDARD.fill(0, 3))
+        self.assertEqual(self.REGION.position(LAST, 0, (Three(), Three())), self.REGION.position(LAST, 0, (3, 3)))
 
 
 # ---- numpy

@@ -19,6 +19,8 @@ Point(x=2684354560, y=536870912)
 5
 >>> vektrid.Region(-500, 0, 1000, 800).position(0x40000000, 0xC0000000)
 Position(x=-250, y=600)
+>>> vektrid.Region(-500, 0, 1000, 800).position(0x40000000, 0xC0000000, field=(200, 100))
+Position(x=-300, y=525)
 >>> pair.check(33)
 Traceback (most recent call last):
 vektrid.Level: refusal 2: a level is not 1 to 32: level = 33
@@ -32,12 +34,12 @@ import sys
 from typing import NamedTuple
 
 __all__ = ['ABI', 'Refusal', 'WordCount', 'Level', 'NotNet', 'Size', 'Shape', 'Cell', 'Block', 'BufferLengths', 'IndexRange', 'RegionLimits',
-           'FileLength', 'ReservedBytes', 'MissingRecord', 'ChainReturns', 'VisitCount', 'Point', 'Singles', 'Visit', 'SinglesVisit', 'Position',
-           'FileVisit', 'Pair', 'Walk', 'SinglesWalk', 'Region', 'standard_point', 'double', 'single', 'judge', 'visits', 'listing',
+           'FileLength', 'ReservedBytes', 'MissingRecord', 'ChainReturns', 'VisitCount', 'Field', 'Point', 'Singles', 'Visit', 'SinglesVisit',
+           'Position', 'FileVisit', 'Pair', 'Walk', 'SinglesWalk', 'Region', 'standard_point', 'double', 'single', 'judge', 'visits', 'listing',
            'listing_pieces', 'sheet', 'sheet_pieces', 'sheet_pages', 'LARGEST_LEVEL', 'LAST_INDEX', 'LONGEST_LINE']
 
-__version__ = '1.1.0'  # of the bindings; rust/vektrid has the same
-ABI = 2  # the number of the interface that this file is written for: VEKTRID_ABI of the header
+__version__ = '1.2.0'  # of the bindings; rust/vektrid has the same
+ABI = 3  # the number of the interface that this file is written for: VEKTRID_ABI of the header
 
 LARGEST_LEVEL = 32
 LAST_INDEX = 2**32 - 1  # and the largest word
@@ -167,9 +169,9 @@ class FileLength(Refusal):
 
 
 class ReservedBytes(Refusal):
-    """12: bytes 8 to 31 of record 0 are not all zero."""
+    """12: bytes 16 to 31 of record 0 are not all zero."""
     number = 12
-    words = 'bytes 8 to 31 of record 0 are not all zero'
+    words = 'bytes 16 to 31 of record 0 are not all zero'
     details = 'byte {place} is {byte}'
 
 
@@ -192,6 +194,13 @@ class VisitCount(Refusal):
     number = 15
     words = 'a record has more than 4,096 visits'
     details = 'record {named} has {count}'
+
+
+class Field(Refusal):
+    """16: the reader's field is wider or higher than a region."""
+    number = 16
+    words = "the reader's field is wider or higher than a region"
+    details = '{where}the field is {field_width} by {field_height} micrometres (0 counts as 1), and the region {width} by {height}'
 
 
 _REFUSALS = {kind.number: kind for kind in Refusal.__subclasses__()}
@@ -289,7 +298,7 @@ _CALLS = {
     'vektrid_double': (ctypes.c_double, [_WORD]),
     'vektrid_single': (_SINGLE, [_WORD]),
     'vektrid_point_singles': (_WORD, _PAIR + [_WORD, _TO_SINGLE, _TO_SINGLE]),
-    'vektrid_position': (_WORD, [_SIGNED, _SIGNED] + 4 * [_WORD] + [_TO_SIGNED, _TO_SIGNED]),
+    'vektrid_position': (_WORD, [_SIGNED, _SIGNED] + 6 * [_WORD] + [_TO_SIGNED, _TO_SIGNED]),
     'vektrid_judge': (_WORD, _FILE),
     'vektrid_judge_link': (_WORD, _FILE + [_TO_WORD, _TO_WORD]),
     'vektrid_file_walk_open': (_WORD, _FILE + [ctypes.POINTER(_FileWalk)]),
@@ -373,6 +382,15 @@ def _shift(shift):
     except (TypeError, ValueError):
         raise TypeError(f'shift = {shift!r} is not two words, one for each axis') from None
     return _whole('shift x', x), _whole('shift y', y)
+
+
+def _field(field):
+    """The width and the height of the reader's field."""
+    try:
+        width, height = field
+    except (TypeError, ValueError):
+        raise TypeError(f'field = {field!r} is not two whole numbers, a width and a height') from None
+    return _whole('field width', width), _whole('field height', height)
 
 
 def _lent(name, buffer):
@@ -651,13 +669,20 @@ class Region(collections.namedtuple('Region', 'left top width height')):
         region.position(0, 0)  # judges the limits
         return region
 
-    def position(self, x, y):
-        """Where a point with coordinate words x and y lies: the Position left + floor(x * width / 2^32), and likewise down, in micrometres."""
+    def position(self, x, y, field=(1, 1)):
+        """Where the corner of the reader's field stands for a point with coordinate words x and y. Gives a Position, in micrometres.
+
+        `field` is the width and the height of the field in micrometres; 0 counts as 1. With F its width, the corner is at
+        left + floor(x * (width - F + 1) / 2^32), and likewise down, so that the whole field lies in the region.
+
+        Refused, in this order: RegionLimits, Field.
+        """
         edges = [_whole(name, value, -2**31, 2**31 - 1) for name, value in (('left', self.left), ('top', self.top))]
         extents = [_whole(name, value) for name, value in (('width', self.width), ('height', self.height))]
+        field_width, field_height = _field(field)
         at_x, at_y = ctypes.c_int32(), ctypes.c_int32()
-        number = _library.vektrid_position(*edges, *extents, _whole('x', x), _whole('y', y), at_x, at_y)
-        _accept(number, where='', **self._asdict())
+        number = _library.vektrid_position(*edges, *extents, field_width, field_height, _whole('x', x), _whole('y', y), at_x, at_y)
+        _accept(number, where='', field_width=field_width, field_height=field_height, **self._asdict())
         return Position(at_x.value, at_y.value)
 
 
@@ -671,12 +696,14 @@ def _read_for(number, file, named):
     if number == Level.number:
         return dict(level=struct.unpack_from('<I', file, 4)[0])
     if number == ReservedBytes.number:
-        place = next(place for place in range(8, 32) if file[place])
+        place = next(place for place in range(16, 32) if file[place])
         return dict(place=place, byte=file[place])
     if number == MissingRecord.number:
         return dict(last=len(file) // 32 - 1)
+    field_width, field_height = struct.unpack_from('<II', file, 8)
     _, left, top, width, height, _, _, count = struct.unpack_from('<IiiIIIII', file, 32 * named)
-    return dict(where=f'record {named}: ', left=left, top=top, width=width, height=height, count=count)
+    return dict(where=f'record {named}: ', left=left, top=top, width=width, height=height, count=count,
+                field_width=field_width, field_height=field_height)
 
 
 def _accept_file(number, file):
@@ -690,8 +717,8 @@ def _accept_file(number, file):
 def judge(file):
     """Judges a whole region file, given as bytes. Gives None.
 
-    Refused: FileLength, Level, ReservedBytes, then at each link of the chain MissingRecord, ChainReturns, RegionLimits, VisitCount; each with
-    `holder` and `named`, the link at which the judgement stopped.
+    Refused: FileLength, Level, ReservedBytes, then at each link of the chain MissingRecord, ChainReturns, RegionLimits, Field, VisitCount; each
+    with `holder` and `named`, the link at which the judgement stopped.
     """
     file = _content(file)
     _accept_file(_library.vektrid_judge(file, len(file)), file)
@@ -700,7 +727,7 @@ def judge(file):
 def visits(file):
     """An iterator over the visits of a region file, given as bytes: FileVisit (record, index, x, y), positions in micrometres, in listing order.
 
-    The file is judged at once. Refused: as judge says.
+    Positions are for the field that record 0 of the file holds. The file is judged at once. Refused: as judge says.
     """
     file, walk = _content(file), _FileWalk()
     _accept_file(_library.vektrid_file_walk_open(file, len(file), walk), file)
