@@ -1,6 +1,7 @@
 // Listings in plain C++, and the region file that they and we list.
 #pragma once
 
+#include <algorithm>
 #include <charconv>
 #include <cstdio>
 #include <cstring>
@@ -12,7 +13,12 @@
 
 constexpr size_t kPiece = 65536, kLongestLine = 46;
 constexpr uint32_t kRecords = 2047, kVisits = 4096;
+constexpr uint32_t kFieldWidth = 400, kFieldHeight = 300;
 inline const std::string kHeader = "record visit x y\n";
+
+struct Head {
+    uint32_t first, level, field_width, field_height;
+};
 
 struct Record {
     uint32_t next, left, top, width, height, shift_x, shift_y, count;
@@ -20,34 +26,42 @@ struct Record {
 
 using File = std::vector<uint8_t>;
 
-// The largest file that 01 allows: all records in a chain, regions and scrambles at random.
+// The largest file that 01 allows: all records in a chain, regions and scrambles at random, and a reader's field that fits them all.
 inline File region_file() {
     File file(32 * (kRecords + 1));
     std::mt19937 random(7);
     const auto below = [&](uint32_t n) { return static_cast<uint32_t>(random()) % n; };
-    const uint32_t header[2] = {1, 32};
-    std::memcpy(file.data(), header, sizeof header);
+    const Head head{1, 32, kFieldWidth, kFieldHeight};
+    std::memcpy(file.data(), &head, sizeof head);
     for (uint32_t n = 1; n <= kRecords; ++n) {
         const uint32_t left = below(2000001) - 1000000, top = below(2000001) - 1000000;
-        const uint32_t width = 1 + below(1000000), height = 1 + below(1000000), x = below(0xFFFFFFFF), y = below(0xFFFFFFFF);
+        const uint32_t width = kFieldWidth + below(1000001 - kFieldWidth), height = kFieldHeight + below(1000001 - kFieldHeight);
+        const uint32_t x = below(0xFFFFFFFF), y = below(0xFFFFFFFF);
         const Record record{n < kRecords ? n + 1 : 0, left, top, width, height, x, y, kVisits};
         std::memcpy(&file[32 * n], &record, sizeof record);
     }
     return file;
 }
 
-inline int32_t position(uint32_t edge, uint32_t extent, uint32_t word) {
-    return static_cast<int32_t>(edge) + static_cast<int32_t>((uint64_t{word} * extent) >> 32);
+// How many places the corner of the field has between the edges of a region, by C-12.
+inline uint32_t places(uint32_t extent, uint32_t field) { return extent - std::max(field, 1u) + 1; }
+
+inline int32_t position(uint32_t edge, uint32_t places, uint32_t word) {
+    return static_cast<int32_t>(edge) + static_cast<int32_t>((uint64_t{word} * places) >> 32);
 }
 
-// The records of a file's chain, each with its number. The file is taken as good, which is in favour of the peers.
+// The records of a file's chain, each with its number, and with the places of the field's corner for its width and height. The file is taken as
+// good, which is in favour of the peers.
 template <class Visit>
 void each_record(const File& file, Visit visit) {
-    uint32_t number;
-    std::memcpy(&number, file.data(), sizeof number);
+    Head head;
+    std::memcpy(&head, file.data(), sizeof head);
+    uint32_t number = head.first;
     while (number != 0) {
         Record record;
         std::memcpy(&record, &file[32 * number], sizeof record);
+        record.width = places(record.width, head.field_width);
+        record.height = places(record.height, head.field_height);
         visit(number, record);
         number = record.next;
     }
