@@ -3,12 +3,13 @@
 //! an interval, it names the visit in it.
 //!
 //! ```
-//! use vektrid::{Cell, Pair, Region, Shift};
+//! use vektrid::{Cell, Field, Pair, Region, Shift};
 //!
 //! let (pair, shift) = (Pair::standard(), Shift { x: 0x1234_5678, y: 0x9ABC_DEF0 });
 //! let point = pair.point(shift, 5);
-//! let at = Region { left: -500, top: 0, width: 1000, height: 800 }.position(point.x, point.y)?;
-//! assert_eq!((at.x, at.y), (196, 583));
+//! let region = Region { left: -500, top: 0, width: 1000, height: 800 };
+//! let at = region.position(Field { width: 200, height: 100 }, point.x, point.y)?;
+//! assert_eq!((at.x, at.y), (57, 511));
 //!
 //! // Of the first sixteen visits, the one in this square of four by four.
 //! let cell = Cell { m: 4, a: 2, column: point.x >> 30, row: point.y >> 30, block: 0 };
@@ -60,6 +61,6 @@ pub use points::{fill_words, point_words, standard_point, Point, Shift};
 pub use refusal::Refusal;
 pub use region_file::{judge, judge_link, visits, FileVisit, FileWalk, Stopped, Visits};
 pub use sheet::{sheet, sheet_pages, Sheet, SheetCursor, SheetPages, PAGE};
-pub use stage::{Position, Region};
+pub use stage::{Field, Position, Region};
 pub use unit::{double, point_singles_words, single, Singles};
 pub use walk::{SinglesVisit, Steps, Visit, Walk};

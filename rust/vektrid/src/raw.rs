@@ -138,12 +138,14 @@ extern "C" {
         y: *mut f32,
     ) -> u32;
 
-    /// Where a point lies in a region.
+    /// Where the corner of the reader's field stands in a region.
     pub fn vektrid_position(
         left: i32,
         top: i32,
         width: u32,
         height: u32,
+        field_width: u32,
+        field_height: u32,
         x: u32,
         y: u32,
         at_x: *mut i32,

@@ -48,7 +48,7 @@ pub enum Refusal {
     Region,
     /// 11: a file is empty, over 65,536 bytes, or not whole records of 32 bytes.
     FileLength,
-    /// 12: bytes 8 to 31 of record 0 are not all zero.
+    /// 12: bytes 16 to 31 of record 0 are not all zero.
     ReservedBytes,
     /// 13: the chain names a record that the file lacks.
     MissingRecord,
@@ -56,10 +56,12 @@ pub enum Refusal {
     ChainReturns,
     /// 15: a record has more than 4,096 visits.
     VisitCount,
+    /// 16: the reader's field is wider or higher than a region.
+    Field,
 }
 
 /// The refusals without values.
-const PLAIN: [Refusal; 14] = [
+const PLAIN: [Refusal; 15] = [
     Refusal::WordCount,
     Refusal::Level,
     Refusal::Size,
@@ -74,6 +76,7 @@ const PLAIN: [Refusal; 14] = [
     Refusal::MissingRecord,
     Refusal::ChainReturns,
     Refusal::VisitCount,
+    Refusal::Field,
 ];
 
 /// What a call without refusal 3 answered.
@@ -98,7 +101,7 @@ pub(crate) fn judged_net(number: u32, m: u32, a: u32, j: u32) -> Result<(), Refu
 }
 
 impl Refusal {
-    /// The number in the refusal table, 1 to 15.
+    /// The number in the refusal table, 1 to 16.
     pub fn number(self) -> u32 {
         match self {
             Refusal::WordCount => 1,
@@ -116,6 +119,7 @@ impl Refusal {
             Refusal::MissingRecord => 13,
             Refusal::ChainReturns => 14,
             Refusal::VisitCount => 15,
+            Refusal::Field => 16,
         }
     }
 
@@ -134,10 +138,11 @@ impl Refusal {
             Refusal::FileLength => {
                 "a file is empty, over 65,536 bytes, or not whole records of 32 bytes"
             }
-            Refusal::ReservedBytes => "bytes 8 to 31 of record 0 are not all zero",
+            Refusal::ReservedBytes => "bytes 16 to 31 of record 0 are not all zero",
             Refusal::MissingRecord => "the chain names a record that the file lacks",
             Refusal::ChainReturns => "the chain returns to a record",
             Refusal::VisitCount => "a record has more than 4,096 visits",
+            Refusal::Field => "the reader's field is wider or higher than a region",
         }
     }
 }

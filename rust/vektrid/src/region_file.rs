@@ -24,7 +24,7 @@ pub struct FileVisit {
 }
 
 /// Judges a whole file. The first refusal that applies is given, in the order 11, 2, 12, and then
-/// at each link of the chain 13, 14, 10, 15.
+/// at each link of the chain 13, 14, 10, 16, 15.
 ///
 /// ```
 /// use vektrid::{judge, Refusal};

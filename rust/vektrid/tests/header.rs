@@ -119,6 +119,7 @@ fn refusals_have_the_names_and_numbers_of_the_header() {
         Refusal::MissingRecord,
         Refusal::ChainReturns,
         Refusal::VisitCount,
+        Refusal::Field,
     ];
     let header = header();
     let constants = header.lines().filter_map(|line| line.trim().strip_prefix("VEKTRID_"));

@@ -1,8 +1,8 @@
 //! The known points of the requirements, and the wrong turns that they name.
 
 use vektrid::{
-    check_words, double, query_words, single, standard_point, Cell, Pair, Point, Position, Refusal,
-    Region, Shift, Singles, SinglesVisit, Visit, Walk,
+    check_words, double, query_words, single, standard_point, Cell, Field, Pair, Point, Position,
+    Refusal, Region, Shift, Singles, SinglesVisit, Visit, Walk,
 };
 
 const NO_SHIFT: Shift = Shift { x: 0, y: 0 };
@@ -114,11 +114,34 @@ fn both_singles_of_a_visit() {
 /// Cut toward zero, the sum -1 + 0.75 would be 0.
 #[test]
 fn positions_are_floors() {
-    let region = Region { left: -1, top: -1, width: 3, height: 3 };
-    assert_eq!(region.position(0x4000_0000, 0xC000_0000), Ok(Position { x: -1, y: 1 }));
+    let (region, field) = (Region { left: -1, top: -1, width: 3, height: 3 }, Field::default());
+    assert_eq!(region.position(field, 0x4000_0000, 0xC000_0000), Ok(Position { x: -1, y: 1 }));
     let most = Region { left: 1_000_000, top: -1_000_000, width: 1_000_000, height: 1 };
     let last = Position { x: 1_999_999, y: -1_000_000 };
-    assert_eq!(most.position(u32::MAX, u32::MAX), Ok(last));
+    assert_eq!(most.position(field, u32::MAX, u32::MAX), Ok(last));
+}
+
+/// The example of C-12: the field's corner is 600 right of the edge, and not 750.
+#[test]
+fn whole_field_lies_in_the_region() {
+    let region = Region { left: -500, top: 0, width: 1000, height: 800 };
+    let field = Field { width: 200, height: 100 };
+    assert_eq!(region.position(field, 0xC000_0000, 0), Ok(Position { x: 100, y: 0 }));
+    // The last place for the corner: the field ends where the region does.
+    assert_eq!(region.position(field, u32::MAX, u32::MAX), Ok(Position { x: 300, y: 700 }));
+    // A field as large as the region has one place.
+    let whole = Field { width: 1000, height: 800 };
+    assert_eq!(region.position(whole, u32::MAX, u32::MAX), Ok(Position { x: -500, y: 0 }));
+}
+
+#[test]
+fn field_of_0_counts_as_1() {
+    let region = Region { left: -500, top: 0, width: 1000, height: 800 };
+    let last = Ok(Position { x: 499, y: 799 });
+    for (width, height) in [(0, 0), (0, 1), (1, 0), (1, 1)] {
+        assert_eq!(region.position(Field { width, height }, u32::MAX, u32::MAX), last);
+    }
+    assert_eq!(Field::default(), Field { width: 0, height: 0 });
 }
 
 #[test]

@@ -189,6 +189,12 @@ fn refused_query_keeps_its_words() {
 fn refused_position_keeps_its_words() {
     let (mut x, mut y) = (-77, -78);
     // SAFETY: two variables.
-    let answer = unsafe { raw::vektrid_position(0, 0, 0, 1, 9, 9, &mut x, &mut y) };
+    let answer = unsafe { raw::vektrid_position(0, 0, 0, 1, 0, 0, 9, 9, &mut x, &mut y) };
     assert_eq!((answer, x, y), (10, -77, -78));
+    for (width, height) in [(6, 1), (1, 8), (u32::MAX, u32::MAX)] {
+        // SAFETY: as above.
+        let answer =
+            unsafe { raw::vektrid_position(0, 0, 5, 7, width, height, 9, 9, &mut x, &mut y) };
+        assert_eq!((answer, x, y), (16, -77, -78));
+    }
 }

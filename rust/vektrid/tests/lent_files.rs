@@ -5,7 +5,10 @@ mod common;
 
 use std::time::{Duration, Instant};
 
-use common::{example, example_with, COUNT, LEVEL, NEXT, RESERVED, WIDTH};
+use common::{
+    example, example_under, example_with, COUNT, FIELD_HEIGHT, FIELD_WIDTH, LEVEL, NEXT, RESERVED,
+    WIDTH,
+};
 use vektrid::raw::{self, Cursor, FileWalk, SheetCursor};
 use vektrid::{visits, Listing, Sheet, Visits, LONGEST_LINE};
 
@@ -18,7 +21,13 @@ const NUMBERS: [u32; 10] =
 #[test]
 fn refused_file_opens_no_walk() {
     let marked = FileWalk { words: [MARK; 11] };
-    for (file, number) in [(vec![], 11), (vec![0; 40], 11), (example_with(WIDTH, 0), 10)] {
+    let refused = [
+        (vec![], 11),
+        (vec![0; 40], 11),
+        (example_with(WIDTH, 0), 10),
+        (example_with(FIELD_WIDTH, 1_001), 16),
+    ];
+    for (file, number) in refused {
         let mut walk = marked;
         // SAFETY: a slice with its length, and a variable.
         let answer = unsafe { raw::vektrid_file_walk_open(file.as_ptr(), file.len(), &mut walk) };
@@ -40,6 +49,7 @@ fn accepted_file_keeps_the_words_of_the_link() {
     assert_eq!(judge_link(&example()), [0, MARK, MARK]);
     assert_eq!(judge_link(&example_with(COUNT, 4_096)), [0, MARK, MARK]);
     assert_eq!(judge_link(&example_with(0, 0)), [0, MARK, MARK]);
+    assert_eq!(judge_link(&example_under(1_000, 800)), [0, MARK, MARK]);
 }
 
 #[test]
@@ -52,6 +62,8 @@ fn refused_file_writes_both_words_of_the_link() {
     assert_eq!(judge_link(&example_with(NEXT, 1)), [14, 1, 1]);
     assert_eq!(judge_link(&example_with(WIDTH, 0)), [10, 0, 1]);
     assert_eq!(judge_link(&example_with(COUNT, 4_097)), [15, 0, 1]);
+    assert_eq!(judge_link(&example_with(FIELD_WIDTH, 1_001)), [16, 0, 1]);
+    assert_eq!(judge_link(&example_with(FIELD_HEIGHT, u32::MAX)), [16, 0, 1]);
 }
 
 #[test]
@@ -108,10 +120,10 @@ fn changed<const N: usize>(words: [u32; N]) -> impl Iterator<Item = [u32; N]> {
     })
 }
 
-/// A file walk in the middle of the example, with changes.
+/// A file walk in the middle of the example under a reader's field, with changes.
 #[test]
 fn file_walks_made_by_hand_are_answered() {
-    let file = example();
+    let file = example_under(200, 100);
     let mut opened = visits(&file).unwrap();
     opened.next();
     let stage = -1_000_000..2_000_000;
@@ -132,8 +144,10 @@ fn file_walks_made_by_hand_are_answered() {
 fn file_walk_made_by_hand_follows_no_more_links_than_a_file_has_records() {
     let mut file = example_with(NEXT, 1);
     file[4 * COUNT..].fill(0);
-    let (number, next, width, height, links) = (1, 1, 1_000, 800, 4_000_000_000);
-    let words = [number, next, 0, 0, width, height, 0, 0, 0, 0, links];
+    // How many places the corner of the reader's field has, here all of the region.
+    let (across, down) = (1_000, 800);
+    let (number, next, links) = (1, 1, 4_000_000_000);
+    let words = [number, next, 0, 0, across, down, 0, 0, 0, 0, links];
     let start = Instant::now();
     assert_eq!(Visits::at(&file, FileWalk { words }).next(), None);
     assert!(start.elapsed() < Duration::from_secs(5));

@@ -2,7 +2,7 @@
 
 mod common;
 
-use common::{example, example_with, COUNT, NEXT};
+use common::{example, example_under, example_with, COUNT, FIELD_WIDTH, NEXT};
 use vektrid::{listing, visits, FileVisit, Listing, Visits, LONGEST_LINE};
 
 const EXAMPLE: &str = "record visit x y\n1 0 -500 0\n1 1 0 400\n1 2 -250 600\n1 3 250 200\n";
@@ -24,10 +24,27 @@ fn visits_of_the_example() {
     assert!(visits(&file).unwrap().eq(expected));
 }
 
+/// Of 801 places across and 701 down, those of the points.
+#[test]
+fn listing_under_a_field() {
+    let lines = "record visit x y\n1 0 -500 0\n1 1 -100 350\n1 2 -300 525\n1 3 100 175\n";
+    assert_eq!(text(&example_under(200, 100)), lines);
+    let at_the_edge = "record visit x y\n1 0 -500 0\n1 1 -500 0\n1 2 -500 0\n1 3 -500 0\n";
+    assert_eq!(text(&example_under(1_000, 800)), at_the_edge);
+}
+
+#[test]
+fn field_of_0_counts_as_1() {
+    for (width, height) in [(0, 0), (0, 1), (1, 0), (1, 1)] {
+        assert_eq!(text(&example_under(width, height)), EXAMPLE);
+    }
+}
+
 #[test]
 fn refused_file_has_one_line() {
     assert_eq!(text(&example()[..40]), "refused 11\n");
     assert_eq!(text(&example_with(NEXT, 1)), "refused 14\n");
+    assert_eq!(text(&example_with(FIELD_WIDTH, 1_001)), "refused 16\n");
 }
 
 #[test]

@@ -2,10 +2,13 @@
 
 mod common;
 
-use common::{example, example_with, COUNT, LEVEL, NEXT, RESERVED, WIDTH};
+use common::{
+    changed, example, example_under, example_with, COUNT, FIELD_HEIGHT, FIELD_WIDTH, LEVEL, NEXT,
+    RESERVED, WIDTH,
+};
 use vektrid::{
     check_words, fill_words, judge, judge_link, point_singles_words, point_words, query_words,
-    standard_words, visits, Cell, Pair, Refusal, Region, Shift, Stopped, Walk,
+    standard_words, visits, Cell, Field, Pair, Refusal, Region, Shift, Stopped, Walk,
 };
 
 const NO_SHIFT: Shift = Shift { x: 0, y: 0 };
@@ -133,14 +136,32 @@ fn ten_at_every_limit() {
         Region { top: i32::MIN, ..REGION },
         Region { top: i32::MAX, ..REGION },
     ];
+    // Ten comes before sixteen, which is due too for the largest field.
     for region in refused {
-        assert_eq!(region.position(0, 0), Err(Refusal::Region));
+        for field in [Field::default(), Field { width: u32::MAX, height: u32::MAX }] {
+            assert_eq!(region.position(field, 0, 0), Err(Refusal::Region));
+        }
     }
     assert_eq!(judge(&example_with(WIDTH, 0)), Err(Refusal::Region));
+    assert_eq!(judge(&changed(example_under(1, 801), WIDTH, 0)), Err(Refusal::Region));
 }
 
 #[test]
-fn eleven_to_fifteen_of_a_file() {
+fn sixteen_for_a_field_that_does_not_fit() {
+    for (width, height) in [(1_001, 0), (0, 801), (1_001, 801), (u32::MAX, 1), (1, u32::MAX)] {
+        let field = Field { width, height };
+        assert_eq!(REGION.position(field, 0, 0), Err(Refusal::Field));
+        assert_eq!(REGION.position(field, u32::MAX, u32::MAX), Err(Refusal::Field));
+        assert_eq!(judge(&example_under(width, height)), Err(Refusal::Field));
+    }
+    assert!(REGION.position(Field { width: 1_000, height: 800 }, 0, 0).is_ok());
+    assert_eq!(judge(&example_under(1_000, 800)), Ok(()));
+    // A chain without records has no region that the field could be too large for.
+    assert_eq!(judge(&changed(example_under(u32::MAX, u32::MAX), 0, 0)), Ok(()));
+}
+
+#[test]
+fn eleven_to_sixteen_of_a_file() {
     let refused = [
         (example()[..40].to_vec(), Refusal::FileLength),
         (Vec::new(), Refusal::FileLength),
@@ -149,6 +170,8 @@ fn eleven_to_fifteen_of_a_file() {
         (example_with(NEXT, 5), Refusal::MissingRecord),
         (example_with(NEXT, 1), Refusal::ChainReturns),
         (example_with(COUNT, 4_097), Refusal::VisitCount),
+        (example_with(FIELD_WIDTH, 1_001), Refusal::Field),
+        (example_with(FIELD_HEIGHT, 801), Refusal::Field),
     ];
     for (file, refusal) in refused {
         assert_eq!(judge(&file), Err(refusal));
@@ -158,10 +181,30 @@ fn eleven_to_fifteen_of_a_file() {
     assert_eq!(judge(&example_with(COUNT, 4_096)), Ok(()));
 }
 
-/// Record 0 names record 3, then come 1 and 2; record 2 has the fields given, its link first.
+/// Each line makes one thing more wrong: 15, 16, 10, 13, 12, 2, 11.
+#[test]
+fn refusals_of_a_file_come_in_order() {
+    let steps = [
+        (COUNT, 4_097, 15),
+        (FIELD_WIDTH, 1_001, 16),
+        (WIDTH, 0, 10),
+        (0, 7, 13),
+        (RESERVED, 1, 12),
+        (LEVEL, 0, 2),
+    ];
+    let mut file = example();
+    for (field, value, number) in steps {
+        file = changed(file, field, value);
+        assert_eq!(judge(&file).unwrap_err().number(), number);
+    }
+    assert_eq!(judge(&file[..63]), Err(Refusal::FileLength));
+}
+
+/// Record 0 names record 3, then come 1 and 2; record 2 has the fields given, its link first. The
+/// reader's field is 200 by 100.
 fn chain_of_three(last: [u32; 8]) -> Vec<u8> {
     let through = |next| [next, 0, 0, 1_000, 800, 0, 0, 4];
-    let records = [[3, 2, 0, 0, 0, 0, 0, 0], through(2), last, through(1)];
+    let records = [[3, 2, 200, 100, 0, 0, 0, 0], through(2), last, through(1)];
     records.iter().flatten().flat_map(|field: &u32| field.to_le_bytes()).collect()
 }
 
@@ -176,6 +219,8 @@ fn refused_file_names_the_link() {
     assert_eq!(judge_link(&outside), stopped(Refusal::Region, 1, 2));
     let long = chain_of_three([9, 0, 0, 1_000, 800, 0, 0, 4_097]);
     assert_eq!(judge_link(&long), stopped(Refusal::VisitCount, 1, 2));
+    let low = chain_of_three([9, 0, 0, 1_000, 99, 0, 0, 4_097]);
+    assert_eq!(judge_link(&low), stopped(Refusal::Field, 1, 2));
     assert_eq!(judge_link(&missing[..40]), stopped(Refusal::FileLength, 0, 0));
     assert_eq!(judge_link(&chain_of_three([0, 0, 0, 1_000, 800, 0, 0, 4])), Ok(()));
 }
@@ -205,5 +250,9 @@ fn refusals_say_what_was_wrong() {
     assert_eq!(
         region.to_string(),
         "refusal 10: an edge or an extent of a region is outside its limits"
+    );
+    assert_eq!(
+        Refusal::Field.to_string(),
+        "refusal 16: the reader's field is wider or higher than a region"
     );
 }

@@ -2,7 +2,7 @@
 
 mod common;
 
-use common::{example, example_with, COUNT, NEXT};
+use common::{changed, example, example_under, example_with, COUNT, FIELD_WIDTH, NEXT};
 use vektrid::{judge, listing, sheet, sheet_pages, Refusal, Sheet, LONGEST_LINE, PAGE};
 
 const HEADING: &str = " rec  vis        x        y";
@@ -28,6 +28,17 @@ fn sheet_of_the_example() {
 }
 
 #[test]
+fn sheet_under_a_field() {
+    let visits = [
+        "   1    0     -500        0",
+        "   1    1     -100      350",
+        "   1    2     -300      525",
+        "   1    3      100      175",
+    ];
+    assert_eq!(lines(&example_under(200, 100))[1..5], visits);
+}
+
+#[test]
 fn file_without_visits_has_one_page() {
     let expected = [&[HEADING], &[BLANK; 48][..], &[FIRST_PAGE]].concat();
     assert_eq!(lines(&example_with(COUNT, 0)), expected);
@@ -38,6 +49,7 @@ fn file_without_visits_has_one_page() {
 fn refused_file_has_the_line_of_the_listing() {
     assert_eq!(sheet(&example()[..40]), b"refused 11\n");
     assert_eq!(sheet(&example_with(NEXT, 1)), b"refused 14\n");
+    assert_eq!(sheet(&example_with(FIELD_WIDTH, 1_001)), b"refused 16\n");
 }
 
 #[test]
@@ -75,7 +87,7 @@ fn ended_pages_stay_ended() {
 #[test]
 fn sheet_reads_back_as_the_listing() {
     for count in [0, 4, 48, 49, 4_096] {
-        let file = example_with(COUNT, count);
+        let file = changed(example_under(200, 100), COUNT, count);
         let mut text = "record visit x y\n".to_string();
         for page in lines(&file).chunks(50) {
             for line in page[1..49].iter().filter(|&line| line != BLANK) {

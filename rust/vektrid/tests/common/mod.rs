@@ -5,7 +5,9 @@
 
 /// Places of fields in the example file, in words.
 pub const LEVEL: usize = 1;
-pub const RESERVED: usize = 2;
+pub const FIELD_WIDTH: usize = 2;
+pub const FIELD_HEIGHT: usize = 3;
+pub const RESERVED: usize = 4;
 pub const NEXT: usize = 8;
 pub const WIDTH: usize = 11;
 pub const COUNT: usize = 15;
@@ -18,7 +20,15 @@ pub fn example() -> Vec<u8> {
 }
 
 pub fn example_with(field: usize, value: u32) -> Vec<u8> {
-    let mut file = example();
+    changed(example(), field, value)
+}
+
+/// The example under a reader's field of this width and height.
+pub fn example_under(width: u32, height: u32) -> Vec<u8> {
+    changed(example_with(FIELD_WIDTH, width), FIELD_HEIGHT, height)
+}
+
+pub fn changed(mut file: Vec<u8>, field: usize, value: u32) -> Vec<u8> {
     file[4 * field..][..4].copy_from_slice(&value.to_le_bytes());
     file
 }
