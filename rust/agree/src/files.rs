@@ -30,7 +30,7 @@ pub struct Answer {
 impl Case for RegionFile {
     const NAME: &'static str = "region file";
     const COUNT: u64 = 40_000;
-    const OUTCOMES: &'static [u32] = &[0, 2, 10, 11, 12, 13, 14, 15];
+    const OUTCOMES: &'static [u32] = &[0, 2, 10, 11, 12, 13, 14, 15, 16];
     type Answer = Answer;
 
     fn make(random: &mut Splitmix, number: u64) -> RegionFile {

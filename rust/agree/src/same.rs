@@ -23,6 +23,7 @@ pub fn refusal(refusal: refusal::Refusal) -> Refusal {
         refusal::Refusal::MissingRecord => Refusal::MissingRecord,
         refusal::Refusal::Return => Refusal::ChainReturns,
         refusal::Refusal::VisitCount => Refusal::VisitCount,
+        refusal::Refusal::Field => Refusal::Field,
     }
 }
 
