@@ -85,6 +85,7 @@ pub fn judge_link(file: &[u8]) -> Result<(), Stopped> {
 }
 
 /// The visits of a file, records in the order of the chain, or the refusal that [`judge`] gives.
+/// Their positions are for the reader's field that record 0 of the file holds.
 ///
 /// ```
 /// use vektrid::{visits, FileVisit, Refusal};
