@@ -593,6 +593,25 @@ static void visits_of_fields(void) {
     visits(1000, 800, at_the_edge);
 }
 
+/* The largest words, which the shift gives: the field ends where the region does, and 0 counts as 1. */
+static void visits_at_the_last_place(void) {
+    static const uint32_t fields_of[6][2] = {{0, 0}, {1, 0}, {0, 1}, {1, 1}, {200, 100}, {1000, 800}};
+    static const int32_t at[6][2] = {{499, 799}, {499, 799}, {499, 799}, {499, 799}, {300, 700}, {-500, 0}};
+    for (int i = 0; i < 6; i++) {
+        vektrid_file_walk walk;
+        uint32_t given = KEPT, record = KEPT, index = KEPT;
+        int32_t x = 77, y = 77;
+        put_example();
+        put(8, fields_of[i][0]);
+        put(12, fields_of[i][1]);
+        put(52, LAST);
+        put(56, LAST);
+        CHECK(vektrid_file_walk_open(file, 64, &walk) == 0);
+        vektrid_file_walk_step(file, 64, &walk, &given, &record, &index, &x, &y);
+        CHECK(given == 1 && record == 1 && index == 0 && x == at[i][0] && y == at[i][1]);
+    }
+}
+
 /* A chain without records is accepted whatever the field is, and a record off the chain is not judged. */
 static void visits_of_none(void) {
     vektrid_file_walk walk;
@@ -879,6 +898,7 @@ int main(void) {
     order_of_files();
     links_of_files();
     visits_of_fields();
+    visits_at_the_last_place();
     visits_of_none();
     listings();
     listing_with_a_field();

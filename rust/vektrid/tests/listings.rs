@@ -2,7 +2,9 @@
 
 mod common;
 
-use common::{example, example_under, example_with, COUNT, FIELD_WIDTH, NEXT};
+use common::{
+    changed, example, example_under, example_with, COUNT, FIELD_WIDTH, NEXT, SHIFT_X, SHIFT_Y,
+};
 use vektrid::{listing, visits, FileVisit, Listing, Visits, LONGEST_LINE};
 
 const EXAMPLE: &str = "record visit x y\n1 0 -500 0\n1 1 0 400\n1 2 -250 600\n1 3 250 200\n";
@@ -33,10 +35,25 @@ fn listing_under_a_field() {
     assert_eq!(text(&example_under(1_000, 800)), at_the_edge);
 }
 
+/// The first visit of the example under a field, with the shift that makes its words the largest.
+fn last_place(width: u32, height: u32) -> (i32, i32) {
+    let file = changed(example_under(width, height), SHIFT_X, u32::MAX);
+    let file = changed(file, SHIFT_Y, u32::MAX);
+    let visit = visits(&file).unwrap().next().unwrap();
+    (visit.x, visit.y)
+}
+
+#[test]
+fn field_ends_where_the_region_does() {
+    assert_eq!(last_place(200, 100), (500 - 200, 800 - 100));
+    assert_eq!(last_place(1_000, 800), (-500, 0));
+}
+
 #[test]
 fn field_of_0_counts_as_1() {
     for (width, height) in [(0, 0), (0, 1), (1, 0), (1, 1)] {
         assert_eq!(text(&example_under(width, height)), EXAMPLE);
+        assert_eq!(last_place(width, height), (499, 799));
     }
 }
 

@@ -10,6 +10,8 @@ pub const FIELD_HEIGHT: usize = 3;
 pub const RESERVED: usize = 4;
 pub const NEXT: usize = 8;
 pub const WIDTH: usize = 11;
+pub const SHIFT_X: usize = 13;
+pub const SHIFT_Y: usize = 14;
 pub const COUNT: usize = 15;
 
 /// First record 1, level 2; record 1 = 0, -500, 0, 1000, 800, 0, 0, 4.
