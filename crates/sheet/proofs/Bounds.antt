@@ -67,11 +67,11 @@ module _ (further : Record → List Test) (file : List ℕ) (bytes : Below 256 f
         y = position-near (r .region .top) (r .region .height) _ (W .top) (W .height) (F .y i);
       }
 
-  records-narrow : (ns : List ℕ) → Each (Good (loader-tests further file) file) ns → Each Narrow (visits-of (planned file) ns)
+  records-narrow : (ns : List ℕ) → Each (Good (loader-tests further file) file) ns → Each Narrow (visits-of file ns)
   unfolding visits-of
   records-narrow [] g = tt
   records-narrow (n ∷ ns) g =
-      each-append Narrow (record-visits n (planned file n) 0 (planned file n .count)) (visits-of (planned file) ns)
+      each-append Narrow (record-visits n (planned file n) 0 (planned file n .count)) (visits-of file ns)
       (each-of-range Narrow (file-visit n (planned file n)) 0 (planned file n .count) (λ i l u. visit-narrow n i (g .0) (omega arith)))
       (records-narrow ns (g .1))
 

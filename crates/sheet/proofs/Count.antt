@@ -37,7 +37,7 @@ judged file vs e = (
 -- ---- its visits
 
 visits-few : (further : Record → List Test) (file ns : List ℕ) → Each (Good (loader-tests further file) file) ns
-    → length (visits-of (planned file) ns) ≤ length ns * most-visits
+    → length (visits-of file ns) ≤ length ns * most-visits
 unfolding visits-of
 visits-few further file [] h = omega arith
 visits-few further file (n ∷ ns) h =
@@ -46,7 +46,7 @@ visits-few further file (n ∷ ns) h =
     omega (
       arith,
       few,
-      length-append own (visits-of (planned file) ns),
+      length-append own (visits-of file ns),
       length-each (file-visit n (planned file n)) 0 (planned file n .count),
       visits-few further file ns (h .1),
     )
@@ -59,4 +59,5 @@ pub accepted-pages : (further : Record → List Test) (file : List ℕ) → judg
 unfolding file-visits
 accepted-pages further file e =
     let ns = chain-numbers file in
-    pages-few (length (visits-of (planned file) ns)) (length ns) (visits-few further file ns (numbers-good further file e)) (numbers-few further file e)
+    pages-few (length (visits-of file ns)) (length ns) (visits-few further file ns (numbers-good further file e))
+    (numbers-few further file e)

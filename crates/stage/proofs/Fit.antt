@@ -121,6 +121,10 @@ corners-least f r w h =
 
 -- ---- the tests of a region and a field
 
+-- 10 comes first, whatever the field is
+pub ten-first : {A : Type 0} (after : Outcome A) (f : Field) (r : Region) → within r ≡ false → first (position-tests f r) after ≡ refused 10 []
+ten-first after f r o = first-refuses after 10 _ (ap not o)
+
 pub both-pass : {A : Type 0} (after : Outcome A) {b : A} (f : Field) (r : Region) → first (position-tests f r) after ≡ accepted b
     → (within r ≡ true) × (takes f r ≡ true) × (after ≡ accepted b)
 both-pass after f r e =
@@ -151,5 +155,5 @@ pub tests-least : {A : Type 0} (after : Outcome A) (f : Field) (r : Region) → 
 tests-least after f r w h = go (within r) refl
   where
     go : (b : Bool) → within r ≡ b → first (position-tests f r) after ≡ first (outside r ∷ []) after
-    go false o = first-refuses after 10 _ (ap not o) ∙ sym (first-refuses after 10 [] (ap not o))
+    go false o = ten-first after f r o ∙ sym (first-refuses after 10 [] (ap not o))
     go true i = pass-both after f r i (takes-least f r i w h) ∙ sym (first-passes after 10 [] (ap not i) ∙ first-none after)

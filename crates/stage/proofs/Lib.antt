@@ -1,4 +1,5 @@
 pub mod Sums
 pub mod Limits
 pub mod Fit
+pub mod Examples
 pub mod Theorem

@@ -16,10 +16,22 @@ use Rattle.stage.specs.declared.regions.Position.{Position}
 use Rattle.stage.specs.Position.{offset, position}
 use Rattle.stage.specs.Field.{field-extent, span}
 use Rattle.stage.specs.Region.{within, takes, outside, corners, position-in, position-outcome}
-use Rattle.stage.specs.Theorem.{InExtent, FieldInside, PositionOf, base-position, Theorems}
+use Rattle.stage.specs.Base.{base-position-outcome}
+use Rattle.stage.specs.Theorem.{InExtent, FieldInside, PositionOf, Reached, Theorems}
 use Rattle.stage.proofs.Limits.{within-has}
 use Rattle.stage.proofs.Sums.{le-plus, plus-lt-plus, plus-le-plus}
-use Rattle.stage.proofs.Fit.{field-extent-pos, corners-least, takes-has, takes-from, not-taken, larger, both-pass, pass-both, tests-least}
+use Rattle.stage.proofs.Fit.{
+  field-extent-pos,
+  corners-least,
+  takes-has,
+  takes-from,
+  not-taken,
+  larger,
+  ten-first,
+  both-pass,
+  pass-both,
+  tests-least,
+}
 
 offset-lt : (x w : ℕ) → 0 < x → w < 2 ^ 32 → offset x w < x
 offset-lt x w p h = div-lt-iff-lt-mul (lit< tt) .1 (subst (λ (k : ℕ). w * x < k) (mul-comm (2 ^ 32) x) (mul-lt-mul-of-pos-right h p))
@@ -91,7 +103,7 @@ module _ (f : Field) (r : Region) (x y : ℕ) where
   sixteen-is i t = first-passes _ 10 _ (ap not i) ∙ first-refuses _ 16 [] (ap not t)
 
   ten-is : within r ≡ false → outcome ≡ refused 10 []
-  ten-is o = first-refuses _ 10 _ (ap not o)
+  ten-is o = ten-first _ f r o
 
   ten-has : outcome ≡ refused 10 [] → within r ≡ false
   ten-has e = go (within r) refl (takes f r) refl
@@ -121,15 +133,12 @@ module _ (f : Field) (r : Region) (x y : ℕ) where
         top-edge = only-edge (r .top) (r .height) (f .height) y (k .height) hy;
       })
 
-  base : f .width ≤ 1 → f .height ≤ 1 → position-outcome f r x y ≡ first (outside r ∷ []) (accepted (base-position r x y))
+  base : f .width ≤ 1 → f .height ≤ 1 → position-outcome f r x y ≡ base-position-outcome r x y
   base w h =
       tests-least (accepted (position-in (corners f r) x y)) f r w h
       ∙ ap (λ (c : Region). first (outside r ∷ []) (accepted (position-in c x y))) (corners-least f r w h)
 
-reached : (f : Field) (r : Region) (i j : ℕ) → within r ≡ true
-    → i + field-extent (f .width) ≤ r .width → j + field-extent (f .height) ≤ r .height
-    → (x : ℕ) × (y : ℕ) × (x < 2 ^ 32) × (y < 2 ^ 32)
-    × (position-outcome f r x y ≡ accepted (record { x = r .left +ℤ pos i; y = r .top +ℤ pos j }))
+reached : Reached
 unfolding corners
 reached f r i j e hi hj =
     let W = within-has r e in

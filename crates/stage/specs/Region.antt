@@ -16,7 +16,7 @@ use Rattle.stage.specs.Field.{fits-in, span}
 unfoldable pub within : Region → Bool
 within r = edge-within (r .left) && edge-within (r .top) && extent-within (r .width) && extent-within (r .height)
 
--- the field is neither wider nor higher than the region
+-- the field is neither wider nor taller than the region
 unfoldable pub takes : Field → Region → Bool
 takes f r = fits-in (r .width) (f .width) && fits-in (r .height) (f .height)
 
@@ -24,7 +24,7 @@ takes f r = fits-in (r .width) (f .width) && fits-in (r .height) (f .height)
 abbrev pub outside : Region → Test
 outside r = record { number = 10; holds = not (within r) }
 
--- refusal 16: the field is wider or higher than the region
+-- refusal 16: the field is wider or taller than the region
 abbrev pub too-large : Field → Region → Test
 too-large f r = record { number = 16; holds = not (takes f r) }
 

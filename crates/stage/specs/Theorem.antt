@@ -2,18 +2,19 @@
 -- does is the position of some point, and exactly which calls are refused under 10 and 16. A field of 0 or 1 gives 01's positions.
 use mathlib.Core.Path.{_≡_}
 use mathlib.Core.Bool.{true, false}
-use mathlib.Core.List.{[], _∷_}
+use mathlib.Core.List.{[]}
 use mathlib.Core.Logic.{_⊎_, _↔_}
 use Prim.Native.Nat.{ℕ, suc, _+_, _-_, _*_, _/_, _^_, _≤_, _<_}
 use lib.IntN.{ℤ, pos, _+ℤ_}
 use lib.Signed.{_≤ℤ_, _<ℤ_}
-use Rattle.refusal.specs.Outcome.{accepted, refused, first}
+use Rattle.refusal.specs.Outcome.{accepted, refused}
 use Rattle.stage.specs.declared.regions.Region.{Region}
 use Rattle.stage.specs.declared.regions.Field.{Field}
 use Rattle.stage.specs.declared.regions.Position.{Position}
 use Rattle.stage.specs.Position.{offset}
 use Rattle.stage.specs.Field.{field-extent}
-use Rattle.stage.specs.Region.{within, outside, position-in, position-outcome}
+use Rattle.stage.specs.Region.{within, position-in, position-outcome}
+use Rattle.stage.specs.Base.{base-position-outcome}
 
 -- edge ≤ z < edge + extent, over the integers
 abbrev pub InExtent : (edge : ℤ) (extent : ℕ) (z : ℤ) → Type 0
@@ -37,9 +38,12 @@ pub record PositionOf (f : Field) (r : Region) (x y : ℕ) (p : Position) : Type
   pub left-edge : field-extent (f .width) ≡ r .width → p .x ≡ r .left
   pub top-edge : field-extent (f .height) ≡ r .height → p .y ≡ r .top
 
--- 01's position call, before there was a field: left + floor (x * width / 2 ^ 32), and likewise down
-abbrev pub base-position : Region → ℕ → ℕ → Position
-base-position r x y = record { x = r .left +ℤ pos (x * r .width / 2 ^ 32); y = r .top +ℤ pos (y * r .height / 2 ^ 32) }
+-- of a region within its limits every place where the whole field lies inside, i to the right of the left edge and j below the top edge, is the
+-- position of some point
+abbrev pub Reached : Type 0
+Reached = (f : Field) (r : Region) (i j : ℕ) → within r ≡ true → i + field-extent (f .width) ≤ r .width → j + field-extent (f .height) ≤ r .height
+    → (x : ℕ) × (y : ℕ) × (x < 2 ^ 32) × (y < 2 ^ 32)
+    × (position-outcome f r x y ≡ accepted (record { x = r .left +ℤ pos i; y = r .top +ℤ pos j }))
 
 pub record Theorems : Type 0 where
   -- the distance of a word from its edge is the largest whole number that is not above word * extent / 2 ^ 32
@@ -50,17 +54,11 @@ pub record Theorems : Type 0 where
   -- every position that is given
   pub given : (f : Field) (r : Region) (x y : ℕ) (p : Position) → x < 2 ^ 32 → y < 2 ^ 32 → position-outcome f r x y ≡ accepted p
       → PositionOf f r x y p
-  -- of a region within its limits every place where the whole field lies inside, i to the right of the left edge and j below the top edge, is
-  -- the position of some point
-  pub reached : (f : Field) (r : Region) (i j : ℕ) → within r ≡ true
-      → i + field-extent (f .width) ≤ r .width → j + field-extent (f .height) ≤ r .height
-      → (x : ℕ) × (y : ℕ) × (x < 2 ^ 32) × (y < 2 ^ 32)
-      × (position-outcome f r x y ≡ accepted (record { x = r .left +ℤ pos i; y = r .top +ℤ pos j }))
+  pub reached : Reached
   -- 10 exactly where the region is outside its limits
   pub ten : (f : Field) (r : Region) (x y : ℕ) → (position-outcome f r x y ≡ refused 10 []) ↔ (within r ≡ false)
   -- of a region within its limits, 16 exactly where the field is larger than the region on an axis
   pub sixteen : (f : Field) (r : Region) (x y : ℕ) → within r ≡ true
       → (position-outcome f r x y ≡ refused 16 []) ↔ ((r .width < field-extent (f .width)) ⊎ (r .height < field-extent (f .height)))
   -- a field of 0 or 1 on each axis gives what 01 gave
-  pub base : (f : Field) (r : Region) (x y : ℕ) → f .width ≤ 1 → f .height ≤ 1
-      → position-outcome f r x y ≡ first (outside r ∷ []) (accepted (base-position r x y))
+  pub base : (f : Field) (r : Region) (x y : ℕ) → f .width ≤ 1 → f .height ≤ 1 → position-outcome f r x y ≡ base-position-outcome r x y

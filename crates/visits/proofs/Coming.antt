@@ -177,7 +177,8 @@ ended-comes file = before-comes file 0 0 ∙ visits-from-none file 0 0 (le-refl 
 -- ---- an accepted file
 
 pub visits-from-accepted : (further : Record → List Test) (file : List ℕ) (links : ℕ) (v : ℕ → Bool) (n : ℕ)
-    → chain-outcome (loader-tests further file) file links v n ≡ accepted tt → visits-from file links n ≡ visits-of (planned file) (numbers file links n)
+    → chain-outcome (loader-tests further file) file links v n ≡ accepted tt
+    → visits-from file links n ≡ visits-of file (numbers file links n)
 unfolding visits-from numbers visits-of
 visits-from-accepted further file zero v n h = absurd (chain-some (loader-tests further file) file v n h)
 visits-from-accepted further file (suc links) v n h =
@@ -185,8 +186,8 @@ visits-from-accepted further file (suc links) v n h =
   where
     go : (n ≡ 0) ⊎ Linked (loader-tests further file) file links v n →
         ((v : ℕ → Bool) (n : ℕ) → chain-outcome (loader-tests further file) file links v n ≡ accepted tt
-        → visits-from file links n ≡ visits-of (planned file) (numbers file links n))
-        → visits-from file (suc links) n ≡ visits-of (planned file) (numbers file (suc links) n)
+        → visits-from file links n ≡ visits-of file (numbers file links n))
+        → visits-from file (suc links) n ≡ visits-of file (numbers file (suc links) n)
     go (inl e) more = simp (listable-zero file n e, eq-eqb n 0 e)
     go (inr l) more =
         let own = sound further (reader-field file) (record-at file n) (l .link .own) in

@@ -87,7 +87,7 @@ module _ (tests : Record → List Test) (file : List ℕ) (n i : ℕ) where
   wanted on = cond (on && ltb i (planned file n .count)) (file-visit n (planned file n) i ∷ []) []
 
   abbrev Once : ℕ → ℕ → Type 0
-  Once links k = visits-at n i (visits-of (planned file) (numbers file links k)) ≡ wanted (member n (numbers file links k))
+  Once links k = visits-at n i (visits-of file (numbers file links k)) ≡ wanted (member n (numbers file links k))
 
   -- those of record n itself
   own-visits : visits-at n i (record-visits n (planned file n) 0 (planned file n .count)) ≡ wanted true
@@ -102,19 +102,19 @@ module _ (tests : Record → List Test) (file : List ℕ) (n i : ℕ) where
           let h = ltb-false i (planned file n .count) e in
           visits-at-none n i (planned file n) 0 (planned file n .count) (inr (omega (arith, h)))
 
-  none-once : visits-at n i (visits-of (planned file) []) ≡ wanted (member n [])
+  none-once : visits-at n i (visits-of file []) ≡ wanted (member n [])
   unfolding visits-of visits-at member
   none-once = refl
 
   -- one record more, which the others do not repeat
-  cons-once : (k : ℕ) (others : List ℕ) → visits-at n i (visits-of (planned file) others) ≡ wanted (member n others)
-      → (k ≡ n → member n others ≡ false) → visits-at n i (visits-of (planned file) (k ∷ others)) ≡ wanted (member n (k ∷ others))
+  cons-once : (k : ℕ) (others : List ℕ) → visits-at n i (visits-of file others) ≡ wanted (member n others)
+      → (k ≡ n → member n others ≡ false) → visits-at n i (visits-of file (k ∷ others)) ≡ wanted (member n (k ∷ others))
   unfolding visits-of member
   cons-once k others after fresh =
-      visits-at-append n i (record-visits k (planned file k) 0 (planned file k .count)) (visits-of (planned file) others) ∙ go (eqb k n) refl
+      visits-at-append n i (record-visits k (planned file k) 0 (planned file k .count)) (visits-of file others) ∙ go (eqb k n) refl
     where
       go : (b : Bool) → eqb k n ≡ b
-          → visits-at n i (record-visits k (planned file k) 0 (planned file k .count)) ++ visits-at n i (visits-of (planned file) others)
+          → visits-at n i (record-visits k (planned file k) 0 (planned file k .count)) ++ visits-at n i (visits-of file others)
           ≡ wanted (b || member n others)
       go true e =
           let same = eqb-true k n e in
@@ -123,7 +123,7 @@ module _ (tests : Record → List Test) (file : List ℕ) (n i : ℕ) where
           (after ∙ ap wanted (fresh same))
           ∙ append-nil (wanted true)
       go false e =
-          ap (λ (vs : List FileVisit). vs ++ visits-at n i (visits-of (planned file) others))
+          ap (λ (vs : List FileVisit). vs ++ visits-at n i (visits-of file others))
           (visits-at-other n i k (planned file k) 0 (planned file k .count) (eqb-false k n e)) ∙ after
 
   chain-once : (links : ℕ) (v : ℕ → Bool) (k : ℕ) → chain-outcome tests file links v k ≡ accepted tt → Once links k
@@ -195,8 +195,9 @@ module _ (further : Record → List Test) (file : List ℕ) (e : judge-outcome f
           let p = both-hold (on-chain file (v .number)) (ltb (v .index) (owned .count)) t in
           let f = reader-field file in
           let r = record-at file (v .number) in
-          let own = sound further f r
-          (member-passes (loader-tests further file) file (v .number) most-records nowhere (first-record file) (judged-chain further file e) (p .0)) in
+          let h = judged-chain further file e in
+          let passes = member-passes (loader-tests further file) file (v .number) most-records nowhere (first-record file) h (p .0) in
+          let own = sound further f r passes in
           record {
             chained = p .0;
             counted = ltb-true (v .index) (owned .count) (p .1);

@@ -40,14 +40,14 @@ file-visit n r i = record { number = n; index = i; x = position-of r i .x; y = p
 abbrev pub record-visits : ℕ → Record → ℕ → ℕ → List FileVisit
 record-visits n r i k = map (file-visit n r) (range i k)
 
--- the visits of the records with these numbers, one record after the other, each from index 0 on; `read` gives the record of a number
-unfoldable pub visits-of : (ℕ → Record) → List ℕ → List FileVisit
-visits-of read [] = []
-visits-of read (n ∷ ns) = record-visits n (read n) 0 (read n .count) ++ visits-of read ns
+-- the visits of the records with these numbers, one record after the other, each from index 0 on
+unfoldable pub visits-of : List ℕ → List ℕ → List FileVisit
+visits-of file [] = []
+visits-of file (n ∷ ns) = record-visits n (planned file n) 0 (planned file n .count) ++ visits-of file ns
 
 -- the visits of a file, in the order of its chain
 unfoldable pub file-visits : List ℕ → List FileVisit
-file-visits file = visits-of (planned file) (chain-numbers file)
+file-visits file = visits-of file (chain-numbers file)
 
 -- and what asking for them comes to
 abbrev pub visits-outcome : List ℕ → Outcome (List FileVisit)

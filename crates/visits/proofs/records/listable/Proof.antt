@@ -53,7 +53,8 @@ region file n = record-at file n .region
 told : (c : tie.After-judge) → let a = c .before .before .before .before .before .before .before .before .args in
     first (position-tests (reader-field (now (a .file))) (region (now (a .file)) (a .n))) (accepted tt) ≡ of-judgement (c .judge .result)
 told c =
-    sym (c .judge .ensures ∙ ap₂ (λ (r : Record) (f : Field). first (position-tests f (r .region)) (accepted tt)) (c .before .before .before .record-at .ensures)
+    sym (c .judge .ensures
+    ∙ ap₂ (λ (r : Record) (f : Field). first (position-tests f (r .region)) (accepted tt)) (c .before .before .before .record-at .ensures)
     (c .before .reader-field .ensures))
 
 -- where the file has the record, they decide
