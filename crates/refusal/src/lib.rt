@@ -34,7 +34,7 @@ pub enum Refusal {
     ChainReturns,
     // 15: too many visits of one record.
     VisitCount,
-    // 16: the reader's field is wider or higher than a region.
+    // 16: the reader's field is wider or taller than a region.
     Field,
 }
 

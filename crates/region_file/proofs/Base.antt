@@ -20,7 +20,7 @@ use Rattle.stage.proofs.Fit.{tests-least}
 use Rattle.region_file.specs.declared.records.Record.{Record}
 use Rattle.region_file.specs.declared.chains.Link.{Link}
 use Rattle.region_file.specs.Records.{word-at, record-at, first-record, file-level, reader-field, zeros, most-records}
-use Rattle.region_file.specs.Chain.{first-link, link-in, no-link}
+use Rattle.region_file.specs.Chain.{first-link, no-link}
 use Rattle.region_file.specs.Judge.{
   not-whole,
   head-tests,
@@ -82,7 +82,8 @@ no-field file h =
 
 module _ (tests others : Record → List Test) (file : List ℕ)
     (alike : (r : Record) (after : Outcome Unit) → first (tests r) after ≡ first (others r) after) where
-  links-alike : (seen : Bool) (n : ℕ) (after : Outcome Unit) → first (link-tests tests file seen n) after ≡ first (link-tests others file seen n) after
+  links-alike : (seen : Bool) (n : ℕ) (after : Outcome Unit)
+      → first (link-tests tests file seen n) after ≡ first (link-tests others file seen n) after
   links-alike seen n after =
       let own = missing file n ∷ returning seen ∷ [] in
       first-append own (tests (record-at file n)) after
@@ -104,13 +105,15 @@ module _ (tests others : Record → List Test) (file : List ℕ)
   stops-alike (suc links) v at =
       let n = at .named in
       ap (λ (l : Link). cond (eqb n 0) at l)
-      (ap₂ (λ (o : Outcome Unit) (l : Link). granted o l at) (links-alike (v n) n (accepted tt)) (stops-alike links (also n v) (link-in file n)))
+      (ap₂ (λ (o : Outcome Unit) (l : Link). granted o l at) (links-alike (v n) n (accepted tt)) (stops-alike links (also n v) _))
 
 -- ---- the whole file
 
 module _ (file : List ℕ) (h : zeros file 8 8 ≡ true) where
   heads : head-tests file ≡ base-head-tests file
-  heads = ap (λ (z : Bool). not-whole file ∷ unknown-level (file-level file) ∷ record { number = 12; holds = not z } ∷ []) (sym (zeros-from file 8 16 8 h))
+  heads =
+      ap (λ (z : Bool). not-whole file ∷ unknown-level (file-level file) ∷ record { number = 12; holds = not z } ∷ [])
+      (sym (zeros-from file 8 16 8 h))
 
   own-alike : (r : Record) (after : Outcome Unit) → first (listing-tests file r) after ≡ first (base-record-tests r) after
   own-alike r after =

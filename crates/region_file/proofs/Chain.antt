@@ -1,7 +1,7 @@
 -- The laws of `chain-outcome` and `whole`, one for each case of the code, and what an accepted link, chain or file has. They hold for every
 -- list of tests of a record.
 -- Assumes nothing.
-use mathlib.Core.Path.{_≡_, refl, sym}
+use mathlib.Core.Path.{_≡_, refl, sym, _∙_}
 use mathlib.Core.Bool.{Bool, true, false, cond}
 use mathlib.Core.List.{List}
 use mathlib.Core.Logic.{_⊎_, inl, inr}
@@ -12,9 +12,9 @@ use borrow.Author.Tests.{eq-eqb, ne-eqb, eqb-true, eqb-false, leb-false, ltb-fal
 use lib.Dec.{eqb}
 use Rattle.ranges.proofs.Tests.{both-hold}
 use Rattle.refusal.specs.Outcome.{Outcome, accepted, refused, Test, first}
-use Rattle.refusal.proofs.First.{accepted-refused, AllPass, all-pass, refused-before, passed-before}
+use Rattle.refusal.proofs.First.{accepted-refused, AllPass, all-pass, refused-before, passed-before, first-append}
 use Rattle.stage.specs.declared.regions.Field.{Field}
-use Rattle.stage.specs.Region.{within, takes}
+use Rattle.stage.specs.Region.{within, takes, position-tests}
 use Rattle.region_file.specs.declared.records.Record.{Record}
 use Rattle.region_file.specs.Records.{record-bytes, most-bytes, record-at, first-record, record-count, most-records}
 use Rattle.region_file.specs.Judge.{
@@ -24,12 +24,19 @@ use Rattle.region_file.specs.Judge.{
   record-tests,
   loader-tests,
   link-tests,
+  record-outcome,
   link-outcome,
   nowhere,
   also,
   chain-outcome,
   judge-outcome,
 }
+
+-- 10 and 16 of a record come before its other tests
+pub region-first : (further : Record → List Test) (f : Field) (r : Record) {k : ℕ} {vs : List ℕ}
+    → _≡_ {A = Outcome Unit} (first (position-tests f (r .region)) (accepted tt)) (refused k vs)
+    → record-outcome (record-tests further f) r ≡ refused k vs
+region-first further f r e = first-append (position-tests f (r .region)) _ _ ∙ refused-before tt _ (position-tests f (r .region)) e
 
 -- what a record has that passes the tests of the listing and further ones, with the reader's field f
 pub record Sound (further : Record → List Test) (f : Field) (r : Record) : Type 0 where
@@ -121,4 +128,5 @@ whole-few bytes e = let m = whole-has bytes e .most in omega (arith, m)
 pub judged-chain : (further : Record → List Test) (file : List ℕ) → judge-outcome further file ≡ accepted tt
     → chain-outcome (loader-tests further file) file most-records nowhere (first-record file) ≡ accepted tt
 unfolding judge-outcome
-judged-chain further file e = all-pass (chain-outcome (loader-tests further file) file most-records nowhere (first-record file)) (head-tests file) e .1
+judged-chain further file e =
+    all-pass (chain-outcome (loader-tests further file) file most-records nowhere (first-record file)) (head-tests file) e .1

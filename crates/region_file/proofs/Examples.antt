@@ -49,7 +49,7 @@ record Judgements : Type 0 where
   -- a field as large as the region is accepted, and one that is larger on an axis is not; 10 is judged before that, and 15 after
   field-of-region : judged (with-field 1 2 1000 800 (one 0 1000 4)) ≡ accepted tt
   field-wider : judged (with-field 1 2 1001 800 (one 0 1000 4)) ≡ refused 16 []
-  field-higher : judged (with-field 1 2 1000 801 (one 0 1000 4)) ≡ refused 16 []
+  field-taller : judged (with-field 1 2 1000 801 (one 0 1000 4)) ≡ refused 16 []
   field-largest : judged (with-field 1 2 0xFFFFFFFF 0 (one 0 1000 4)) ≡ refused 16 []
   region-before-field : judged (with-field 1 2 1001 0 (one 0 0 4)) ≡ refused 10 []
   field-before-count : judged (with-field 1 2 1001 0 (one 0 1000 4097)) ≡ refused 16 []
@@ -86,7 +86,7 @@ examples = record {
   region-before-count = refl;
   field-of-region = refl;
   field-wider = refl;
-  field-higher = refl;
+  field-taller = refl;
   field-largest = refl;
   region-before-field = refl;
   field-before-count = refl;

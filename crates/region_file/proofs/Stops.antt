@@ -118,8 +118,8 @@ stops-at further file h =
     let few = whole-few (length file) (not-false _ (heads .0)) in
     let ms : List ℕ = replicate most-records 0 in
     let fresh : free ms ≡ most-records = free-fresh most-records in
-    let r = from (loader-tests further file) file few most-records 0 ms (length-replicate {A = ℕ} most-records 0) (fresh-at most-records 0) (omega arith)
-    (marked-fresh most-records) (λ i less. absurd (not-suc-le-zero less)) in
+    let r = from (loader-tests further file) file few most-records 0 ms (length-replicate {A = ℕ} most-records 0)
+    (fresh-at most-records 0) (omega arith) (marked-fresh most-records) (λ i less. absurd (not-suc-le-zero less)) in
     let s = r .1 in
     let judged = head-passed further file h in
     (r .0, record { stop = judged .1 ∙ s .stop; decides = judged .0 ∙ s .decides; ends = s .ends; earlier = s .earlier })

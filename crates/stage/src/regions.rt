@@ -52,7 +52,7 @@ impl Region {
         axis::extent_within(self.height)
     }
 
-    // Whether the field is neither wider nor higher than the region.
+    // Whether the field is neither wider nor taller than the region.
     fn takes(self, field: Field) -> bool
         ensures { λ r. ⌜ r ≡ takes field self ⌝ }
     {

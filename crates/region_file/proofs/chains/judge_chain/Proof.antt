@@ -56,17 +56,18 @@ first-record-requires c κs = search needs
 
 loop-holds : tie.Need-loop-holds Inv-loop μ-loop
 loop-holds c =
-    let a = c .before .before .args in (
+    let a = c .before .before .args in
+    let file = now (a .file) in (
       length-replicate {A = ℕ} most-records 0,
       fresh-at most-records 0,
       search needs,
       search needs,
-      ap₂ (λ (f : ℕ) (m : ℕ → Bool). chain-outcome (listing-tests (now (a .file))) (now (a .file)) f m (c .first-record .result))
+      ap₂ (λ (f : ℕ) (m : ℕ → Bool). chain-outcome (listing-tests file) file f m (c .first-record .result))
           (free-fresh most-records) (marked-fresh most-records)
-          ∙ ap (chain-outcome (listing-tests (now (a .file))) (now (a .file)) most-records nowhere) (c .first-record .ensures),
-      ap₂ (λ (f : ℕ) (m : ℕ → Bool). chain-stop (listing-tests (now (a .file))) (now (a .file)) f m (from 0 (c .first-record .result)))
+          ∙ ap (chain-outcome (listing-tests file) file most-records nowhere) (c .first-record .ensures),
+      ap₂ (λ (f : ℕ) (m : ℕ → Bool). chain-stop (listing-tests file) file f m (from 0 (c .first-record .result)))
           (free-fresh most-records) (marked-fresh most-records)
-          ∙ ap (λ (n : ℕ). chain-stop (listing-tests (now (a .file))) (now (a .file)) most-records nowhere (from 0 n)) (c .first-record .ensures),
+          ∙ ap (λ (n : ℕ). chain-stop (listing-tests file) file most-records nowhere (from 0 n)) (c .first-record .ensures),
     )
 
 cast-at : tie.Need-cast-at Inv-loop μ-loop
@@ -86,26 +87,29 @@ enum-known-judged c = search needs
 
 -- what the tests of the link come to, by the marks
 link-judged : (c : tie.After-judge-named Inv-loop μ-loop)
-    → link-outcome (listing-tests (now (c .before .before .before .before .before .before .before .args .file))) (now (c .before .before .before .before .before .before .before .args .file))
+    → let file = now (c .before .before .before .before .before .before .before .args .file) in
+    link-outcome (listing-tests file) file
     (marked (c .before .before .before .before .loop .marks) (c .before .before .before .before .loop .n))
     (c .before .before .before .before .loop .n)
     ≡ of-judgement (c .judge-named .result)
 unfolding marked
 link-judged c =
     let a = c .before .before .before .before .before .before .before .args in
-    sym (c .judge-named .ensures ∙ ap (λ (x : Bool). link-outcome (listing-tests (now (a .file))) (now (a .file)) x (c .before .before .before .before .loop .n))
+    let file = now (a .file) in
+    sym (c .judge-named .ensures ∙ ap (λ (x : Bool). link-outcome (listing-tests file) file x (c .before .before .before .before .loop .n))
     (c .before .is-marked .ensures))
 
 returns : tie.Need-returns Inv-loop μ-loop
 returns c =
     let a = c .before .before .before .before .before .before .before .before .before .before .args in
+    let file = now (a .file) in
     let i = c .before .before .before .before .before .before .before .loop in
     let ne = c .before .before .before .before .before .before .loop-test .taken in
     let refuses = link-judged (c .before .before .before) ∙ ap of-judgement (c .before .judged .given .1) in (
-      sym (chain-refused (listing-tests (now (a .file))) (now (a .file)) (marked (i .marks)) (i .n) ne (free (i .marks))
+      sym (chain-refused (listing-tests file) file (marked (i .marks)) (i .n) ne (free (i .marks))
           (free-some (i .marks) (i .inv .0) (i .inv .1)) refuses)
           ∙ i .inv .4,
-      sym (stop-refused (listing-tests (now (a .file))) (now (a .file)) (marked (i .marks)) (from (i .holder) (i .n)) (free (i .marks)) ne refuses) ∙ i .inv .5,
+      sym (stop-refused (listing-tests file) file (marked (i .marks)) (from (i .holder) (i .n)) (free (i .marks)) ne refuses) ∙ i .inv .5,
     )
 
 enum-told : tie.Need-enum-told Inv-loop μ-loop
@@ -115,8 +119,9 @@ took : (c : tie.After-enum-told Inv-loop μ-loop) → Taken (now (c .before .bef
     (c .before .before .before .before .before .before .loop .marks) (c .before .before .before .before .before .before .loop .n)
 took c =
     let a = c .before .before .before .before .before .before .before .before .before .args in
+    let file = now (a .file) in
     let i = c .before .before .before .before .before .before .loop in
-    taken (now (a .file)) (i .marks) (i .n) (c .before .before .before .before .before .before .before .before .before .pre) (i .inv .0)
+    taken (file) (i .marks) (i .n) (c .before .before .before .before .before .before .before .before .before .pre) (i .inv .0)
     (link-judged (c .before .before) ∙ ap of-judgement (c .enum-told .given .1))
 
 array-write-marks : tie.Need-array-write-marks Inv-loop μ-loop
@@ -134,6 +139,7 @@ loop-less c =
 loop-again : tie.Need-loop-again Inv-loop μ-loop
 loop-again c =
     let a = c .before .before .before .before .before .before .before .before .before .before .args in
+    let file = now (a .file) in
     let i = c .before .before .before .before .before .before .before .loop in
     let t = took (c .before) in
     let v = marked (i .marks) in
@@ -144,16 +150,16 @@ loop-again c =
       getD-set-other (i .marks) (i .n) 0 1 0 q ∙ i .inv .1,
       search needs,
       search needs,
-      ap₂ (λ (m : ℕ → Bool) (k : ℕ). chain-outcome (listing-tests (now (a .file))) (now (a .file)) (free left) m k) (marked-set (i .marks) (i .n) (t .here))
+      ap₂ (λ (m : ℕ → Bool) (k : ℕ). chain-outcome (listing-tests file) file (free left) m k) (marked-set (i .marks) (i .n) (t .here))
           (ap (λ (x : Record). x .next) (c .record-at .ensures))
-          ∙ sym (chain-next (listing-tests (now (a .file))) (now (a .file)) v (i .n) ne (free left) (t .passes))
-          ∙ ap (λ (f : ℕ). chain-outcome (listing-tests (now (a .file))) (now (a .file)) f v (i .n)) (sym (free-set (i .marks) (i .n) (t .here) (t .clear)))
+          ∙ sym (chain-next (listing-tests file) file v (i .n) ne (free left) (t .passes))
+          ∙ ap (λ (f : ℕ). chain-outcome (listing-tests file) file f v (i .n)) (sym (free-set (i .marks) (i .n) (t .here) (t .clear)))
           ∙ i .inv .4,
-      ap₂ (λ (m : ℕ → Bool) (k : ℕ). chain-stop (listing-tests (now (a .file))) (now (a .file)) (free left) m (from (i .n) k))
+      ap₂ (λ (m : ℕ → Bool) (k : ℕ). chain-stop (listing-tests file) file (free left) m (from (i .n) k))
           (marked-set (i .marks) (i .n) (t .here))
           (ap (λ (x : Record). x .next) (c .record-at .ensures))
-          ∙ sym (stop-next (listing-tests (now (a .file))) (now (a .file)) v (from (i .holder) (i .n)) (free left) ne (t .passes))
-          ∙ ap (λ (f : ℕ). chain-stop (listing-tests (now (a .file))) (now (a .file)) f v (from (i .holder) (i .n)))
+          ∙ sym (stop-next (listing-tests file) file v (from (i .holder) (i .n)) (free left) ne (t .passes))
+          ∙ ap (λ (f : ℕ). chain-stop (listing-tests file) file f v (from (i .holder) (i .n)))
           (sym (free-set (i .marks) (i .n) (t .here) (t .clear)))
           ∙ i .inv .5,
     )
@@ -161,11 +167,12 @@ loop-again c =
 returns-2 : tie.Need-returns-2 Inv-loop μ-loop
 returns-2 c =
     let a = c .before .before .before .before .args in
+    let file = now (a .file) in
     let i = c .before .loop in (
-      sym (chain-end (listing-tests (now (a .file))) (now (a .file)) (free (i .marks)) (free-some (i .marks) (i .inv .0) (i .inv .1)) (marked (i .marks)) (i .n)
+      sym (chain-end (listing-tests file) file (free (i .marks)) (free-some (i .marks) (i .inv .0) (i .inv .1)) (marked (i .marks)) (i .n)
           (c .loop-test .left))
           ∙ i .inv .4,
-      sym (stop-end (listing-tests (now (a .file))) (now (a .file)) (marked (i .marks)) (from (i .holder) (i .n)) (free (i .marks)) (c .loop-test .left))
+      sym (stop-end (listing-tests file) file (marked (i .marks)) (from (i .holder) (i .n)) (free (i .marks)) (c .loop-test .left))
           ∙ i .inv .5,
     )
 

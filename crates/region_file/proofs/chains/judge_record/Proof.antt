@@ -8,9 +8,10 @@ use borrow.Author.Needs.{needs}
 use borrow.Author.Tests.{lt-ltb, le-ltb}
 use Rattle.refusal.specs.Outcome.{Outcome, accepted, Test, first}
 use Rattle.refusal.specs.Refusal.{of-judgement}
-use Rattle.refusal.proofs.First.{first-none, first-refuses, first-passes, refused-before, passed-before, first-append}
+use Rattle.refusal.proofs.First.{first-none, first-refuses, first-passes, passed-before, first-append}
 use Rattle.stage.specs.Region.{position-tests}
-use Rattle.region_file.specs.Judge.{most-visits}
+use Rattle.region_file.specs.Judge.{most-visits, no-further-tests}
+use Rattle.region_file.proofs.Chain.{region-first}
 use Rattle.region_file.proofs.chains.judge_record.Statement.{statement}
 use Rattle.region_file.proofs.chains.judge_record.Tie as tie
 
@@ -28,8 +29,8 @@ told c = sym (c .judge .ensures)
 returns : tie.Need-returns
 returns c =
     let a = c .before .before .before .before .before .args in
-    let tests = position-tests (a .field) (a .named .region) in
-    sym (first-append tests _ _ ∙ refused-before tt _ tests (told (c .before .before .before) ∙ ap of-judgement (c .before .judged .given .1)))
+    let refuses = told (c .before .before .before) ∙ ap of-judgement (c .before .judged .given .1) in
+    sym (region-first no-further-tests (a .field) (a .named) refuses)
 
 enum-told : tie.Need-enum-told
 enum-told c = search needs

@@ -10,7 +10,11 @@ field-extent-requires : tie.Need-field-extent-requires
 field-extent-requires c κs = search needs
 
 returns : tie.Need-returns
-returns c = search needs
+returns c =
+    let least = field-extent-pos (c .before .before .args .word) in
+    let same = c .before .field-extent .ensures in
+    let less = c .if1 .taken in
+    omega (arith, least, same, less)
 
 add-result : tie.Need-add-result
 add-result c =

@@ -38,7 +38,8 @@ returns c = sym (refused-before tt (accepted _) _ (told (c .before .before .befo
 returns-2 : tie.Need-returns-2
 returns-2 c =
     let a = c .before .before .before .before .before .args in
-    let p = both-pass (accepted tt) (a .field) (a .self) (told (c .before .before .before .before) ∙ ap of-judgement (c .before .before .enum-told .given .1)) in
+    let accepts = told (c .before .before .before .before) ∙ ap of-judgement (c .before .before .enum-told .given .1) in
+    let p = both-pass (accepted tt) (a .field) (a .self) accepts in
     c .corner .ensures
     ∙ ap (λ (r : Region). corner-outcome r (a .x) (a .y)) (c .before .corners .ensures)
     ∙ first-passes _ 10 [] (ap not (corners-within (a .field) (a .self) (p .0) (p .1)))
