@@ -43,7 +43,7 @@ enum vektrid_refusal { /* docs/REFUSALS.md says exactly when each is given */
     VEKTRID_MISSING_RECORD = 13, /* the chain names a record that the file lacks */
     VEKTRID_CHAIN_RETURNS = 14,  /* the chain returns to a record */
     VEKTRID_VISIT_COUNT = 15,    /* a record has more than 4,096 visits */
-    VEKTRID_FIELD = 16           /* the reader's field is wider or higher than a region */
+    VEKTRID_FIELD = 16           /* the reader's field is wider or taller than a region */
 };
 
 /* ---- pairs */

@@ -244,7 +244,7 @@ class RefusalTable(unittest.TestCase):
                 (vektrid.MissingRecord, dict(holder=1, named=5, last=1),
                  'refusal 13: the chain names a record that the file lacks: record 1 names record 5, and the last record of the file is 1'),
                 (vektrid.Field, dict(where='record 1: ', field_width=1001, field_height=0, width=1000, height=800),
-                 "refusal 16: the reader's field is wider or higher than a region: record 1: the field is 1001 by 0 micrometres (0 counts as 1), "
+                 "refusal 16: the reader's field is wider or taller than a region: record 1: the field is 1001 by 0 micrometres (0 counts as 1), "
                  'and the region 1000 by 800')]:
             self.assertEqual(str(kind(**given)), message)
         with unittest.mock.patch.object(vektrid.Shape, 'details', ''):  # nothing behind the words where there are no values

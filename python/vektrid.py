@@ -197,9 +197,9 @@ class VisitCount(Refusal):
 
 
 class Field(Refusal):
-    """16: the reader's field is wider or higher than a region."""
+    """16: the reader's field is wider or taller than a region."""
     number = 16
-    words = "the reader's field is wider or higher than a region"
+    words = "the reader's field is wider or taller than a region"
     details = '{where}the field is {field_width} by {field_height} micrometres (0 counts as 1), and the region {width} by {height}'
 
 

@@ -56,7 +56,7 @@ pub enum Refusal {
     ChainReturns,
     /// 15: a record has more than 4,096 visits.
     VisitCount,
-    /// 16: the reader's field is wider or higher than a region.
+    /// 16: the reader's field is wider or taller than a region.
     Field,
 }
 
@@ -142,7 +142,7 @@ impl Refusal {
             Refusal::MissingRecord => "the chain names a record that the file lacks",
             Refusal::ChainReturns => "the chain returns to a record",
             Refusal::VisitCount => "a record has more than 4,096 visits",
-            Refusal::Field => "the reader's field is wider or higher than a region",
+            Refusal::Field => "the reader's field is wider or taller than a region",
         }
     }
 }

@@ -253,6 +253,6 @@ fn refusals_say_what_was_wrong() {
     );
     assert_eq!(
         Refusal::Field.to_string(),
-        "refusal 16: the reader's field is wider or higher than a region"
+        "refusal 16: the reader's field is wider or taller than a region"
     );
 }
