@@ -1,7 +1,7 @@
 -- What users rely on: every chain ends within the number of links that its judgement looks at, nothing off the chain is looked at, a loader
 -- with further tests accepts the files of the listing whose records pass them, and a judgement stops at the first link that does not pass;
 -- exactly which links are refused for the reader's field, and that files without one are judged as 01 has it.
--- All this holds for every list of tests of a record, or of further tests.
+-- What is said of refusal 16 and of 01 concerns the listing's own tests; all else holds for every list of tests of a record, or of further tests.
 use mathlib.Core.Path.{_≡_}
 use mathlib.Core.Bool.{Bool, true, false, cond}
 use mathlib.Core.List.{List, []}

@@ -1,7 +1,6 @@
 -- C-12's example, computed from the definitions: no reader must rely on it.
 -- Assumes nothing.
 use mathlib.Core.Path.{_≡_, refl}
-use Prim.Native.Nat.{ℕ}
 use Rattle.stage.specs.Position.{offset}
 use Rattle.stage.specs.Field.{field-extent, span}
 

@@ -10,7 +10,6 @@ use lib.IntN.{ℤ}
 use Rattle.refusal.specs.Outcome.{accepted}
 use Rattle.refusal.proofs.First.{first-none, first-refuses, first-passes}
 use Rattle.stage.specs.declared.regions.Position.{Position}
-use Rattle.stage.specs.Region.{within}
 use Rattle.stage.proofs.Limits.{Within, within-has, edge-read, position-told}
 use Rattle.stage.proofs.regions.Region.corner.Statement.{statement}
 use Rattle.stage.proofs.regions.Region.corner.Tie as tie
