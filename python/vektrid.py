@@ -7,9 +7,9 @@ A refused call raises the subclass of Refusal for its line of the refusal table 
 that is no whole number raises TypeError, and one that has no place in the library's 32 or 64 bits raises ValueError; nothing is cut or rounded
 to fit.
 
-The field's words stand first and the planner's own behind in brackets: generator matrices (pair), digital shift (scramble), elementary interval
-(cell), cursor (walk). A word is a whole number from 0 to 2^32 - 1; a coordinate word w stands for w / 2^32. Only the standard library is needed;
-numpy is used if asked for.
+The words of the literature stand first and the planner's own behind in brackets: generator matrices (pair), digital shift (scramble), elementary
+interval (cell), cursor (walk). A word is a whole number from 0 to 2^32 - 1; a coordinate word w stands for w / 2^32. Only the standard library is
+needed; numpy is used if asked for.
 
 >>> import vektrid
 >>> pair = vektrid.Pair.standard()

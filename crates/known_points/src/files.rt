@@ -13,10 +13,10 @@ pub fn put_word(file: &mut [u8], at: usize, word: u32) {
     text::bytes(&bytes, file, at);
 }
 
-fn put_record(file: &mut [u8], n: u32, fields: [u32; 8]) {
+fn put_record(file: &mut [u8], n: u32, words: [u32; 8]) {
     let mut k = 0usize;
     while k < 8 {
-        put_word(file, n as usize * 32 + k * 4, fields[k]);
+        put_word(file, n as usize * 32 + k * 4, words[k]);
         k += 1;
     }
 }

@@ -33,7 +33,7 @@ pub record NetTest (G : Generators) (m a : ℕ) : Type 0 where
   pub plain-iff : (determinant G m a ≢ 0) ↔ Finds (plain G) m a 0 (visit-index (plain G) m a 0)
   pub stratified-iff : (determinant G m a ≢ 0) ↔ Stratified G m a
 
--- what passing level M is worth: the same in every shape of a size from 0 to M; each block is a (0, m, 2)-net in the field's words, and
+-- what passing level M is worth: the same in every shape of a size from 0 to M; each block is a (0, m, 2)-net in the words of the literature, and
 -- its run has one visit in each interval
 pub record Net (G : Generators) (M : ℕ) : Type 0 where
   pub stratified : (m a : ℕ) → m ≤ M → a ≤ m → Stratified G m a

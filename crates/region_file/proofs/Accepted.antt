@@ -1,5 +1,5 @@
--- What every accepted file has, whatever further tests it passed: no more records than the longest file, and a chain of records that pass their
--- tests, which names no record twice, and never record 0.
+-- What every accepted file has, whatever further tests it passed: no more records than the longest file, and a chain of at most 2,047 records that
+-- pass their tests, since each link takes a record that was free, and record 0 stays free.
 -- Assumes nothing.
 use mathlib.Core.Path.{_≡_, sym, ap, _∙_}
 use mathlib.Core.Bool.{Bool}

@@ -25,9 +25,6 @@ unfoldable pub base-judge-outcome : List ℕ → Outcome Unit
 base-judge-outcome file = first (base-head-tests file) (chain-outcome base-record-tests file most-records nowhere (first-record file))
 
 -- and where it stops
-abbrev pub base-head-outcome : List ℕ → Outcome Unit
-base-head-outcome file = first (base-head-tests file) (accepted tt)
-
 unfoldable pub base-judge-stop : List ℕ → Link
 base-judge-stop file =
-    granted (base-head-outcome file) (chain-stop base-record-tests file most-records nowhere (first-link file)) no-link
+    granted {A = Unit} (first (base-head-tests file) (accepted tt)) (chain-stop base-record-tests file most-records nowhere (first-link file)) no-link

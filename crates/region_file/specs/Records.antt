@@ -56,7 +56,7 @@ unfoldable pub zeros : List ℕ → ℕ → ℕ → Bool
 zeros file at zero = true
 zeros file at (suc n) = eqb (getD file at 0) 0 && zeros file (at + 1) n
 
--- the first of the reserved bytes of record 0, which stand behind its four words
+-- the first of the reserved bytes of record 0, which stand behind the four words that it uses
 abbrev pub reserved-start : ℕ
 reserved-start = 16
 

@@ -18,7 +18,7 @@ ghost use Rattle.region_file.specs.Judge.{whole, no-further-tests, judge
 // The bytes of the longest file.
 const MOST_BYTES: usize = 65536;
 
-// The first reserved byte of record 0. The four words of record 0 stand before it.
+// The first reserved byte of record 0. The four words that record 0 uses stand before it.
 const RESERVED_START: usize = 16;
 
 // The number of reserved bytes.

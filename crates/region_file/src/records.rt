@@ -11,7 +11,7 @@ ghost use Rattle.region_file.specs.Records.{record-word, record-at, firs
 // The bytes of a record.
 pub(crate) const RECORD_BYTES: usize = 32;
 
-// The bytes of a word. A record has eight.
+// The bytes of a word. A record has eight words.
 const WORD_BYTES: usize = 4;
 
 // The records of the longest file, record 0 included.

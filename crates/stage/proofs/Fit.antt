@@ -35,14 +35,14 @@ field-extent-pos w = go (eq-or-ne w 0)
     go (inr ne) = let same = field-extent-some w ne in omega (arith, same, ne)
 
 -- a field of 0 or 1 reaches 1, so that its corner may take every place of the extent
-pub field-extent-least : (w : ℕ) → w ≤ 1 → field-extent w ≡ 1
+field-extent-least : (w : ℕ) → w ≤ 1 → field-extent w ≡ 1
 field-extent-least w h = go (eq-or-ne w 0)
   where
     go : (w ≡ 0) ⊎ (w ≢ 0) → field-extent w ≡ 1
     go (inl e) = field-extent-none w e
     go (inr ne) = let same = field-extent-some w ne in omega (arith, same, ne)
 
-pub span-least : (x w : ℕ) → w ≤ 1 → span x w ≡ x
+span-least : (x w : ℕ) → w ≤ 1 → span x w ≡ x
 span-least x w h = let one = field-extent-least w h in omega (arith, one)
 
 -- ---- a field that a region takes
@@ -82,7 +82,7 @@ larger f r o = go (takes f r) refl o
     go true e (inr h) = let k = takes-has f r e .height in absurd (omega (arith, h, k))
 
 -- a region within its limits takes a field of 0 or 1
-pub takes-least : (f : Field) (r : Region) → within r ≡ true → f .width ≤ 1 → f .height ≤ 1 → takes f r ≡ true
+takes-least : (f : Field) (r : Region) → within r ≡ true → f .width ≤ 1 → f .height ≤ 1 → takes f r ≡ true
 takes-least f r i w h =
     let W = within-has r i in
     let some-width = W .some-width in

@@ -102,9 +102,6 @@ module _ (f : Field) (r : Region) (x y : ℕ) where
   sixteen-is : within r ≡ true → takes f r ≡ false → outcome ≡ refused 16 []
   sixteen-is i t = first-passes _ 10 _ (ap not i) ∙ first-refuses _ 16 [] (ap not t)
 
-  ten-is : within r ≡ false → outcome ≡ refused 10 []
-  ten-is o = ten-first _ f r o
-
   ten-has : outcome ≡ refused 10 [] → within r ≡ false
   ten-has e = go (within r) refl (takes f r) refl
     where
@@ -170,7 +167,7 @@ theorems = record {
       (axis (r .left) (r .width) x (w .some-width) hx, axis (r .top) (r .height) y (w .some-height) hy);
   given = given;
   reached = reached;
-  ten = λ f r x y. (ten-has f r x y, ten-is f r x y);
+  ten = λ f r x y. (ten-has f r x y, ten-first _ f r);
   sixteen = λ f r x y i. (λ e. not-taken f r (sixteen-has f r x y i e), λ o. sixteen-is f r x y i (larger f r o));
   base = base;
 }

@@ -48,7 +48,7 @@ Reached = (f : Field) (r : Region) (i j : ℕ) → within r ≡ true → i + fie
 pub record Theorems : Type 0 where
   -- the distance of a word from its edge is the largest whole number that is not above word * extent / 2 ^ 32
   pub floor : (extent word : ℕ) → (offset extent word * 2 ^ 32 ≤ word * extent) × (word * extent < suc (offset extent word) * 2 ^ 32)
-  -- every point of the unit square has its corner in a region of corners: left ≤ x < left + width and top ≤ y < top + height
+  -- 01's formula stays in its region for every point of the unit square: left ≤ x < left + width and top ≤ y < top + height
   pub inside : (r : Region) (x y : ℕ) → within r ≡ true → x < 2 ^ 32 → y < 2 ^ 32
       → InExtent (r .left) (r .width) (position-in r x y .x) × InExtent (r .top) (r .height) (position-in r x y .y)
   -- every position that is given

@@ -89,7 +89,8 @@ impl Region {
         }
     }
 
-    // Where the point with coordinate words x and y lies in a region of corners, or 10.
+    // 01's position call: where the point with coordinate words x and y lies in the region, or 10 where that is outside its limits. Asked of
+    // the places that the corner of a field may take, it gives the corner.
     pub fn corner(self, x: u32, y: u32) -> Placed
         ensures { λ r. ⌜ of-placed r ≡ corner-outcome self x y ⌝ }
     {
@@ -104,7 +105,8 @@ impl Region {
         })
     }
 
-    // The position of the point with coordinate words x and y, so that the whole field lies in the region. 10, or 16 where it cannot.
+    // The position of the point with coordinate words x and y, so that the whole field lies in the region. 10 where the region is outside its
+    // limits, and else 16 where the field is too large for it.
     pub fn position(self, field: Field, x: u32, y: u32) -> Placed
         ensures { λ r. ⌜ of-placed r ≡ position-outcome field self x y ⌝ }
     {

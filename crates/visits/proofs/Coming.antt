@@ -71,6 +71,7 @@ listable-within file n e =
 -- ---- a visit's position
 
 pub refused-outside : (r : Record) (i : ℕ) {k : ℕ} {vs : List ℕ} → planned-position-outcome r i ≡ refused k vs → within (r .region) ≡ false
+unfolding position-of
 refused-outside r i e = go (within (r .region)) refl
   where
     go : (b : Bool) → within (r .region) ≡ b → within (r .region) ≡ false
@@ -79,6 +80,7 @@ refused-outside r i e = go (within (r .region)) refl
 
 pub accepted-inside : (r : Record) (i : ℕ) {p : Position} → planned-position-outcome r i ≡ accepted p
     → (within (r .region) ≡ true) × (position-of r i ≡ p)
+unfolding position-of
 accepted-inside r i e =
     let h = first-accepted (accepted (position-of r i)) 10 [] (not (within (r .region))) e in
     (not-false _ (h .0), accepted-same (sym (first-none _) ∙ h .1))

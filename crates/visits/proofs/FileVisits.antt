@@ -188,6 +188,7 @@ module _ (further : Record → List Test) (file : List ℕ) (e : judge-outcome f
   the-one = once further file e (v .number) (v .index)
 
   is-visit : Among v (file-visits file) → VisitOf file v
+  unfolding position-of
   is-visit m = go (on-chain file (v .number) && ltb (v .index) (owned .count)) refl (subst (Among v) the-one (among-own v (file-visits file) m))
     where
       go : (b : Bool) → (on-chain file (v .number) && ltb (v .index) (owned .count)) ≡ b → Among v (cond b (itself ∷ []) []) → VisitOf file v
@@ -208,6 +209,7 @@ module _ (further : Record → List Test) (file : List ℕ) (e : judge-outcome f
       go false t m = absurd m
 
   visit-is : VisitOf file v → Among v (file-visits file)
+  unfolding position-of
   visit-is o =
       let t : (on-chain file (v .number) && ltb (v .index) (owned .count)) ≡ true =
       ap₂ (λ (a b : Bool). a && b) (o .chained) (lt-ltb (v .index) (owned .count) (o .counted)) in

@@ -6,7 +6,7 @@ use mathlib.Core.List.{List}
 use Prim.Native.Nat.{ℕ, _^_, _<_}
 use Rattle.ranges.specs.Below.{Below}
 use Rattle.digits.proofs.Two.{one-lt-two}
-use Rattle.net.specs.Sequence.{Fits, point}
+use Rattle.net.specs.Sequence.{Fits}
 use Rattle.net.proofs.Columns.{standard-valid}
 use Rattle.net.proofs.Interval.{plain-fits}
 use Rattle.net.proofs.Scrambling.{shift-lawful, scrambled-fits}
@@ -19,7 +19,7 @@ use Rattle.region_file.specs.Records.{record-at, reader-field}
 use Rattle.region_file.specs.Judge.{judge-outcome}
 use Rattle.region_file.proofs.Words.{word-lt}
 use Rattle.visits.specs.declared.file_walks.FileVisit.{FileVisit}
-use Rattle.visits.specs.Visits.{position-of, file-visits}
+use Rattle.visits.specs.Visits.{record-point, file-visits}
 use Rattle.visits.specs.Theorem.{Among, HasPosition}
 use Rattle.visits.proofs.FileVisits.{visit-iff}
 
@@ -35,10 +35,9 @@ record-fits file bytes n = sequence-fits (record-at file n .shift) (word-lt file
 
 pub fields-inside : (further : Record → List Test) (file : List ℕ) → Below 256 file → judge-outcome further file ≡ accepted tt
     → (v : FileVisit) → Among v (file-visits file) → HasPosition file v
-unfolding position-of
 fields-inside further file bytes e v m =
     let r = record-at file (v .number) in
-    let p = point (sequence standard-pair (r .shift)) (v .index) in
+    let p = record-point r (v .index) in
     let fits = record-fits file bytes (v .number) in
     let placed = visit-iff further file e v .0 m .placed in
     theorems .given (reader-field file) (r .region) (p .0) (p .1) (record { x = v .x; y = v .y }) (fits .x (v .index)) (fits .y (v .index)) placed

@@ -3,20 +3,19 @@
 use mathlib.Core.List.{List, [], _∷_, _++_, map}
 use Prim.Native.Nat.{ℕ}
 use Rattle.ranges.specs.Range.{range}
-use Rattle.net.specs.Sequence.{point}
 use Rattle.refusal.specs.Outcome.{Outcome, accepted, then}
-use Rattle.plan.specs.Pair.{sequence, standard-pair}
 use Rattle.stage.specs.Base.{base-position}
 use Rattle.region_file.specs.declared.records.Record.{Record}
 use Rattle.region_file.specs.Records.{record-at}
 use Rattle.region_file.specs.Chain.{chain-numbers}
 use Rattle.region_file.specs.Base.{base-judge-outcome}
 use Rattle.visits.specs.declared.file_walks.FileVisit.{FileVisit}
+use Rattle.visits.specs.Visits.{record-point}
 
 -- the visit with index i of the record r, whose number is n
 abbrev pub base-file-visit : ℕ → Record → ℕ → FileVisit
 base-file-visit n r i =
-    let p = point (sequence standard-pair (r .shift)) i in
+    let p = record-point r i in
     let at = base-position (r .region) (p .0) (p .1) in
     record { number = n; index = i; x = at .x; y = at .y }
 

@@ -1,23 +1,23 @@
 -- Inner promises: a position in the walk's record, a step within the record, and the walk at the next record that has a visit.
 use mathlib.Core.Path.{_≡_}
 use mathlib.Core.Bool.{cond, not, _&&_}
-use mathlib.Core.List.{List, [], _∷_}
+use mathlib.Core.List.{List, []}
 use mathlib.Core.Logic.{_⊎_}
 use Prim.Native.Nat.{ℕ, _+_, _<_}
 use lib.Dec.{leb}
-use Rattle.refusal.specs.Outcome.{Outcome, accepted, first}
+use Rattle.refusal.specs.Outcome.{Outcome}
 use Rattle.stage.specs.declared.regions.Position.{Position}
-use Rattle.stage.specs.Region.{within, outside}
+use Rattle.stage.specs.Region.{within, corner-outcome}
 use Rattle.region_file.specs.declared.records.Record.{Record}
 use Rattle.visits.specs.declared.file_walks.FileWalk.{FileWalk}
 use Rattle.visits.specs.declared.file_walks.FileStep.the-variants as step
 use Rattle.visits.specs.declared.file_walks.FileStepped.{FileStepped}
-use Rattle.visits.specs.Visits.{position-of, file-visit}
+use Rattle.visits.specs.Visits.{record-point, file-visit}
 use Rattle.visits.specs.FileWalk.{visits-from, links-counted, visits-to-come}
 
 -- where the visit with index i of the walk's record lies, or 10: the record has been read for the reader's field already
 abbrev pub planned-position-outcome : Record → ℕ → Outcome Position
-planned-position-outcome r i = first (outside (r .region) ∷ []) (accepted (position-of r i))
+planned-position-outcome r i = let p = record-point r i in corner-outcome (r .region) (p .0) (p .1)
 
 -- the walk after the visit at its index
 abbrev pub after-visit : FileWalk → FileWalk

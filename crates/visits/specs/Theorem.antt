@@ -8,9 +8,7 @@ use Prim.Native.Nat.{ℕ, zero, suc, _≤_, _<_}
 use lib.Dec.{eqb, ltb}
 use lib.ListN.{length}
 use Rattle.ranges.specs.Below.{Below}
-use Rattle.net.specs.Sequence.{point}
 use Rattle.refusal.specs.Outcome.{accepted, Test}
-use Rattle.plan.specs.Pair.{sequence, standard-pair}
 use Rattle.stage.specs.Theorem.{PositionOf}
 use Rattle.region_file.specs.declared.records.Record.{Record}
 use Rattle.region_file.specs.Records.{record-at, reader-field, zeros, most-records}
@@ -21,7 +19,7 @@ use Rattle.visits.specs.declared.file_walks.FileWalk.{FileWalk}
 use Rattle.visits.specs.declared.file_walks.FileStep.{FileStep}
 use Rattle.visits.specs.declared.file_walks.FileStep.the-variants as step
 use Rattle.visits.specs.declared.file_walks.OpenedFile.the-variants as opened
-use Rattle.visits.specs.Visits.{planned, visit-position-outcome, file-visit, file-visits, visits-outcome}
+use Rattle.visits.specs.Visits.{planned, record-point, visit-position-outcome, file-visit, file-visits, visits-outcome}
 use Rattle.visits.specs.Base.{base-visits-outcome}
 use Rattle.visits.specs.FileWalk.{links-counted, visits-to-come, Gives, of-opened-file}
 
@@ -56,7 +54,7 @@ pub record VisitOf (file : List ℕ) (v : FileVisit) : Type 0 where
 abbrev pub HasPosition : List ℕ → FileVisit → Type 0
 HasPosition file v =
     let r = record-at file (v .number) in
-    let p = point (sequence standard-pair (r .shift)) (v .index) in
+    let p = record-point r (v .index) in
     PositionOf (reader-field file) (r .region) (p .0) (p .1) (record { x = v .x; y = v .y })
 
 -- those of a list of visits that have the record number n and the index i
@@ -78,7 +76,7 @@ pub record Theorems : Type 0 where
   pub once : (further : Record → List Test) (file : List ℕ) → judge-outcome further file ≡ accepted tt
       → (n i : ℕ) → visits-at n i (file-visits file)
       ≡ cond (on-chain file n && ltb i (record-at file n .count)) (file-visit n (planned file n) i ∷ []) []
-  -- of every visit of an accepted file the whole field lies in the region of its record, at the place that C-12's formula gives
+  -- of every visit of an accepted file of bytes the whole field lies in the region of its record, at the place that C-12's formula gives
   pub fields-inside : (further : Record → List Test) (file : List ℕ) → Below 256 file → judge-outcome further file ≡ accepted tt
       → (v : FileVisit) → Among v (file-visits file) → HasPosition file v
   -- a file whose bytes 8 to 15 are zero has the visits that it had by 01, or its refusal

@@ -4,11 +4,11 @@ use mathlib.Core.List.{List, [], _∷_, _++_, map}
 use Prim.Native.Nat.{ℕ}
 use Rattle.ranges.specs.Range.{range}
 use Rattle.net.specs.Sequence.{point}
-use Rattle.refusal.specs.Outcome.{Outcome, accepted, first, then}
+use Rattle.refusal.specs.Outcome.{Outcome, accepted, then}
 use Rattle.plan.specs.Pair.{sequence, standard-pair}
 use Rattle.stage.specs.declared.regions.Region.{Region}
 use Rattle.stage.specs.declared.regions.Position.{Position}
-use Rattle.stage.specs.Region.{position-tests, corners, position-in}
+use Rattle.stage.specs.Region.{corners, position-in, position-outcome}
 use Rattle.region_file.specs.declared.records.Record.{Record}
 use Rattle.region_file.specs.Records.{record-at, reader-field}
 use Rattle.region_file.specs.Chain.{chain-numbers}
@@ -23,16 +23,22 @@ with-region r g = record { next = r .next; region = g; shift = r .shift; count =
 abbrev pub planned : List ℕ → ℕ → Record
 planned file n = let r = record-at file n in with-region r (corners (reader-field file) (r .region))
 
--- where the visit with index i of a record lies, by 01's formula in the record's region
-unfoldable pub position-of : Record → ℕ → Position
-position-of r i = let p = point (sequence standard-pair (r .shift)) i in position-in (r .region) (p .0) (p .1)
+-- the point of index i in a record: that of the standard pair under the record's shift
+abbrev pub record-point : Record → ℕ → ℕ × ℕ
+record-point r i = point (sequence standard-pair (r .shift)) i
 
--- what asking where the visit with index i of record n lies comes to: 10 or 16 where the position of no point would be given
+-- where the visit with index i lies of a record that is read as the planner does
+unfoldable pub position-of : Record → ℕ → Position
+position-of r i = let p = record-point r i in position-in (r .region) (p .0) (p .1)
+
+-- what asking where the visit with index i of record n lies comes to: the position call with the file's field, for the point of that index
 abbrev pub visit-position-outcome : List ℕ → ℕ → ℕ → Outcome Position
 visit-position-outcome file n i =
-    first (position-tests (reader-field file) (record-at file n .region)) (accepted (position-of (planned file n) i))
+    let r = record-at file n in
+    let p = record-point r i in
+    position-outcome (reader-field file) (r .region) (p .0) (p .1)
 
--- the visit with index i of the record r, whose number is n
+-- the visit with index i of the record r, which is read so and whose number is n
 abbrev pub file-visit : ℕ → Record → ℕ → FileVisit
 file-visit n r i = record { number = n; index = i; x = position-of r i .x; y = position-of r i .y }
 

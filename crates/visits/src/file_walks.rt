@@ -20,8 +20,8 @@ pub struct FileVisit {
     pub y: i32,
 }
 
-// A cursor over the visits of a file: a record with its number, the index of the next visit in it, and the number of records that may
-// still follow, of which no more count than a file can have.
+// A cursor over the visits of a file: a record as the planner reads it with its number, the index of the next visit in it, and the number
+// of records that may still follow, of which no more count than a file can have.
 pub struct FileWalk {
     pub number: u32,
     pub planned: Record,

@@ -67,7 +67,7 @@ impl Case for RegionFile {
         simpler_file(&self.bytes).into_iter().map(|bytes| RegionFile { bytes }).collect()
     }
 
-    /// Records go first, and then the fields of those that are left become smaller.
+    /// Records go first, and then the words of those that are left become smaller.
     fn smallest(self) -> RegionFile {
         let differs = |bytes: &[u8]| RegionFile { bytes: bytes.to_vec() }.differs();
         simplified(RegionFile { bytes: shrink::shrunk(self.bytes, differs) })

@@ -54,11 +54,11 @@ fn simpler_column(word: u32, plain: u32) -> Vec<u32> {
     [plain].into_iter().chain(zero).chain(fewer).collect()
 }
 
-/// Files with one field smaller.
+/// Files with one word smaller.
 pub fn simpler_file(file: &[u8]) -> Vec<Vec<u8>> {
     let mut simpler = Vec::new();
-    for (at, field) in file.chunks_exact(4).enumerate() {
-        let number = u32::from_le_bytes([field[0], field[1], field[2], field[3]]);
+    for (at, word) in file.chunks_exact(4).enumerate() {
+        let number = u32::from_le_bytes([word[0], word[1], word[2], word[3]]);
         for less in simpler_word(number) {
             let mut changed = file.to_vec();
             changed[4 * at..][..4].copy_from_slice(&less.to_le_bytes());

@@ -32,7 +32,7 @@
 //!
 //! # Words
 //!
-//! Comments use the words of the field, and where the planner has a word of its own it stands
+//! Comments use the words of the literature, and where the planner has a word of its own it stands
 //! behind in brackets: two generator matrices (a pair), digital shift (scramble), elementary
 //! interval (cell), cursor over visits (walk).
 

@@ -47,8 +47,8 @@ impl TextCursor for Cursor {
 /// The whole listing of a file.
 ///
 /// ```
-/// let fields = [1, 2, 0, 0, 0, 0, 0, 0, 0, 70, 90, 1000, 800, 0, 0, 2_u32];
-/// let file: Vec<u8> = fields.iter().flat_map(|field| field.to_le_bytes()).collect();
+/// let words = [1, 2, 0, 0, 0, 0, 0, 0, 0, 70, 90, 1000, 800, 0, 0, 2_u32];
+/// let file: Vec<u8> = words.iter().flat_map(|word| word.to_le_bytes()).collect();
 /// assert_eq!(vektrid::listing(&file), b"record visit x y\n1 0 70 90\n1 1 570 490\n");
 /// ```
 pub fn listing(file: &[u8]) -> Vec<u8> {

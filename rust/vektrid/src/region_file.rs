@@ -43,8 +43,8 @@ pub fn judge(file: &[u8]) -> Result<(), Refusal> {
 /// ```
 /// use vektrid::{judge_link, Refusal, Stopped};
 ///
-/// let fields = [1, 2, 0, 0, 0, 0, 0, 0, 5, 70, 90, 1000, 800, 0, 0, 2_u32];
-/// let file: Vec<u8> = fields.iter().flat_map(|field| field.to_le_bytes()).collect();
+/// let words = [1, 2, 0, 0, 0, 0, 0, 0, 5, 70, 90, 1000, 800, 0, 0, 2_u32];
+/// let file: Vec<u8> = words.iter().flat_map(|word| word.to_le_bytes()).collect();
 /// let stopped = judge_link(&file).unwrap_err();
 /// assert_eq!(stopped, Stopped { refusal: Refusal::MissingRecord, holder: 1, named: 5 });
 /// assert_eq!(
@@ -90,8 +90,8 @@ pub fn judge_link(file: &[u8]) -> Result<(), Stopped> {
 /// ```
 /// use vektrid::{visits, FileVisit, Refusal};
 ///
-/// let fields = [1, 2, 0, 0, 0, 0, 0, 0, 0, 70, 90, 1000, 800, 0, 0, 2_u32];
-/// let file: Vec<u8> = fields.iter().flat_map(|field| field.to_le_bytes()).collect();
+/// let words = [1, 2, 0, 0, 0, 0, 0, 0, 0, 70, 90, 1000, 800, 0, 0, 2_u32];
+/// let file: Vec<u8> = words.iter().flat_map(|word| word.to_le_bytes()).collect();
 /// let mut visits = visits(&file)?;
 /// assert_eq!(visits.next(), Some(FileVisit { record: 1, index: 0, x: 70, y: 90 }));
 /// assert_eq!(visits.next(), Some(FileVisit { record: 1, index: 1, x: 570, y: 490 }));

@@ -58,8 +58,8 @@ impl TextCursor for SheetCursor {
 /// The whole sheet of a file.
 ///
 /// ```
-/// let fields = [1, 2, 0, 0, 0, 0, 0, 0, 0, 70, 90, 1000, 800, 0, 0, 2_u32];
-/// let file: Vec<u8> = fields.iter().flat_map(|field| field.to_le_bytes()).collect();
+/// let words = [1, 2, 0, 0, 0, 0, 0, 0, 0, 70, 90, 1000, 800, 0, 0, 2_u32];
+/// let file: Vec<u8> = words.iter().flat_map(|word| word.to_le_bytes()).collect();
 /// let sheet = String::from_utf8(vektrid::sheet(&file)).unwrap();
 /// let lines: Vec<&str> = sheet.lines().collect();
 /// assert_eq!(lines.len(), 50);
@@ -78,8 +78,8 @@ pub fn sheet(file: &[u8]) -> Vec<u8> {
 /// ```
 /// use vektrid::{sheet_pages, Refusal, PAGE};
 ///
-/// let fields = [1, 2, 0, 0, 0, 0, 0, 0, 0, 70, 90, 1000, 800, 0, 0, 49_u32];
-/// let file: Vec<u8> = fields.iter().flat_map(|field| field.to_le_bytes()).collect();
+/// let words = [1, 2, 0, 0, 0, 0, 0, 0, 0, 70, 90, 1000, 800, 0, 0, 49_u32];
+/// let file: Vec<u8> = words.iter().flat_map(|word| word.to_le_bytes()).collect();
 /// let pages: Vec<[u8; PAGE]> = sheet_pages(&file)?.collect();
 /// assert_eq!(pages.len(), 2);
 /// assert!(pages[1].ends_with(b" 2\n"));

@@ -14,7 +14,7 @@ use vektrid::{visits, Listing, Sheet, Visits, LONGEST_LINE};
 
 const MARK: u32 = 0xDEAD_BEEF;
 
-/// Numbers about the limits of fields.
+/// Numbers about the limits of a file's words.
 const NUMBERS: [u32; 10] =
     [0, 1, 2, 1_000_000, 1_000_001, 2_048, 4_096, i32::MAX as u32, 1 << 31, u32::MAX];
 

@@ -193,19 +193,19 @@ fn refusals_of_a_file_come_in_order() {
         (LEVEL, 0, 2),
     ];
     let mut file = example();
-    for (field, value, number) in steps {
-        file = changed(file, field, value);
+    for (place, value, number) in steps {
+        file = changed(file, place, value);
         assert_eq!(judge(&file).unwrap_err().number(), number);
     }
     assert_eq!(judge(&file[..63]), Err(Refusal::FileLength));
 }
 
-/// Record 0 names record 3, then come 1 and 2; record 2 has the fields given, its link first. The
+/// Record 0 names record 3, then come 1 and 2; record 2 has the words given, its link first. The
 /// reader's field is 200 by 100.
 fn chain_of_three(last: [u32; 8]) -> Vec<u8> {
     let through = |next| [next, 0, 0, 1_000, 800, 0, 0, 4];
     let records = [[3, 2, 200, 100, 0, 0, 0, 0], through(2), last, through(1)];
-    records.iter().flatten().flat_map(|field: &u32| field.to_le_bytes()).collect()
+    records.iter().flatten().flat_map(|word: &u32| word.to_le_bytes()).collect()
 }
 
 #[test]

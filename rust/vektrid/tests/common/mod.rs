@@ -1,9 +1,9 @@
-//! The example file of the requirements, and files with one of its fields changed.
+//! The example file of the requirements, and files with one of its words changed.
 
 // Each test program uses a part of it.
 #![allow(dead_code)]
 
-/// Places of fields in the example file, in words.
+/// Which word of the example file is which.
 pub const LEVEL: usize = 1;
 pub const FIELD_WIDTH: usize = 2;
 pub const FIELD_HEIGHT: usize = 3;
@@ -18,11 +18,11 @@ pub const COUNT: usize = 15;
 const EXAMPLE: [u32; 16] = [1, 2, 0, 0, 0, 0, 0, 0, 0, -500_i32 as u32, 0, 1000, 800, 0, 0, 4];
 
 pub fn example() -> Vec<u8> {
-    EXAMPLE.iter().flat_map(|field| field.to_le_bytes()).collect()
+    EXAMPLE.iter().flat_map(|word| word.to_le_bytes()).collect()
 }
 
-pub fn example_with(field: usize, value: u32) -> Vec<u8> {
-    changed(example(), field, value)
+pub fn example_with(place: usize, value: u32) -> Vec<u8> {
+    changed(example(), place, value)
 }
 
 /// The example under a reader's field of this width and height.
@@ -30,7 +30,7 @@ pub fn example_under(width: u32, height: u32) -> Vec<u8> {
     changed(example_with(FIELD_WIDTH, width), FIELD_HEIGHT, height)
 }
 
-pub fn changed(mut file: Vec<u8>, field: usize, value: u32) -> Vec<u8> {
-    file[4 * field..][..4].copy_from_slice(&value.to_le_bytes());
+pub fn changed(mut file: Vec<u8>, place: usize, value: u32) -> Vec<u8> {
+    file[4 * place..][..4].copy_from_slice(&value.to_le_bytes());
     file
 }

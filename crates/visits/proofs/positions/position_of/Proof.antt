@@ -4,7 +4,6 @@ use mathlib.Core.Path.{ap, _∙_}
 use Prim.Native.Nat.{ℕ}
 use borrow.Author.Needs.{needs}
 use Rattle.stage.specs.Region.{corner-outcome}
-use Rattle.visits.specs.Visits.{position-of}
 use Rattle.visits.proofs.positions.position_of.Statement.{statement}
 use Rattle.visits.proofs.positions.position_of.Tie as tie
 
@@ -15,7 +14,6 @@ corner-requires : tie.Need-corner-requires
 corner-requires c κs = search needs
 
 returns : tie.Need-returns
-unfolding position-of
 returns c =
     let r = c .before .before .before .args .planned in
     c .corner .ensures ∙ ap (λ (p : ℕ × ℕ). corner-outcome (r .region) (p .0) (p .1)) (c .before .standard-point .ensures)

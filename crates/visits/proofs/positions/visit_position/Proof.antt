@@ -3,12 +3,10 @@
 use mathlib.Core.Path.{ap, ap₂, _∙_}
 use Prim.Native.Nat.{ℕ}
 use borrow.Author.Needs.{needs}
-use Rattle.net.specs.Sequence.{point}
-use Rattle.plan.specs.Pair.{sequence, standard-pair}
 use Rattle.stage.specs.declared.regions.Field.{Field}
 use Rattle.stage.specs.Region.{position-outcome}
 use Rattle.region_file.specs.declared.records.Record.{Record}
-use Rattle.visits.specs.Visits.{position-of}
+use Rattle.visits.specs.Visits.{record-point}
 use Rattle.visits.proofs.positions.visit_position.Statement.{statement}
 use Rattle.visits.proofs.positions.visit_position.Tie as tie
 
@@ -25,14 +23,13 @@ position-requires : tie.Need-position-requires
 position-requires c κs = search needs
 
 returns : tie.Need-returns
-unfolding position-of
 returns c =
     let a = c .before .before .before .before .before .before .args in
     let named = c .before .before .before .before .record-at in
     let p = c .before .before .standard-point in
     c .position .ensures
     ∙ ap (λ (q : ℕ × ℕ). position-outcome (c .before .reader-field .result) (named .result .region) (q .0) (q .1)) (p .ensures)
-    ∙ ap₂ (λ (r : Record) (f : Field). let q = point (sequence standard-pair (r .shift)) (a .index) in position-outcome f (r .region) (q .0) (q .1))
+    ∙ ap₂ (λ (r : Record) (f : Field). let q = record-point r (a .index) in position-outcome f (r .region) (q .0) (q .1))
     (named .ensures) (c .before .reader-field .ensures)
 
 pub visit-position-spec : {M : Type 1} → statement M
