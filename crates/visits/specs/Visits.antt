@@ -27,7 +27,7 @@ planned file n = let r = record-at file n in with-region r (corners (reader-fiel
 abbrev pub record-point : Record → ℕ → ℕ × ℕ
 record-point r i = point (sequence standard-pair (r .shift)) i
 
--- where the visit with index i lies of a record that is read as the planner does
+-- where the visit with index i of a record lies, the record being read as the planner does
 unfoldable pub position-of : Record → ℕ → Position
 position-of r i = let p = record-point r i in position-in (r .region) (p .0) (p .1)
 
@@ -38,7 +38,7 @@ visit-position-outcome file n i =
     let p = record-point r i in
     position-outcome (reader-field file) (r .region) (p .0) (p .1)
 
--- the visit with index i of the record r, which is read so and whose number is n
+-- the visit with index i of the record r, whose number is n; r is read so
 abbrev pub file-visit : ℕ → Record → ℕ → FileVisit
 file-visit n r i = record { number = n; index = i; x = position-of r i .x; y = position-of r i .y }
 
