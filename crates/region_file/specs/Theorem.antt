@@ -1,7 +1,7 @@
 -- What users rely on: every chain ends within the number of links that its judgement looks at, nothing off the chain is looked at, a loader
 -- with further tests accepts the files of the listing whose records pass them, and a judgement stops at the first link that does not pass;
 -- exactly which links are refused for the reader's field, and that files without one are judged as 01 has it.
--- What is said of refusal 16 and of 01 concerns the listing's own tests; all else holds for every list of tests of a record, or of further tests.
+-- What is said of 01 concerns the listing's own tests; all else holds for every list of tests of a record, or of further tests.
 use mathlib.Core.Path.{_≡_}
 use mathlib.Core.Bool.{Bool, true, false, cond}
 use mathlib.Core.List.{List, []}
@@ -20,7 +20,6 @@ use Rattle.region_file.specs.Judge.{
   head-outcome,
   no-further-tests,
   loader-tests,
-  listing-tests,
   record-outcome,
   link-outcome,
   nowhere,
@@ -90,12 +89,13 @@ pub record Stops (further : Record → List Test) (file : List ℕ) : Type 0 whe
 -- ---- the reader's field
 
 -- a link is refused under 16 exactly where the file has the record that it names, no earlier link named it, its region is within the limits, and
--- the field is larger than the region on an axis
+-- the field is larger than the region on an axis; so for every loader whose further tests do not give 16 themselves
 abbrev pub SixteenAt : Type 0
-SixteenAt = (file : List ℕ) (seen : Bool) (n : ℕ)
+SixteenAt = (further : Record → List Test) (file : List ℕ) (seen : Bool) (n : ℕ)
+    → (record-outcome further (record-at file n) ≡ refused 16 [] → ⊥)
     → let r = record-at file n .region in
     let f = reader-field file in
-    (link-outcome (listing-tests file) file seen n ≡ refused 16 [])
+    (link-outcome (loader-tests further file) file seen n ≡ refused 16 [])
     ↔ ((n < record-count file) × (seen ≡ false) × (within r ≡ true)
     × ((r .width < field-extent (f .width)) ⊎ (r .height < field-extent (f .height))))
 

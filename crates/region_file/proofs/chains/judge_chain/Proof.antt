@@ -121,7 +121,7 @@ took c =
     let a = c .before .before .before .before .before .before .before .before .before .args in
     let file = now (a .file) in
     let i = c .before .before .before .before .before .before .loop in
-    taken (file) (i .marks) (i .n) (c .before .before .before .before .before .before .before .before .before .pre) (i .inv .0)
+    taken file (i .marks) (i .n) (c .before .before .before .before .before .before .before .before .before .pre) (i .inv .0)
     (link-judged (c .before .before) ∙ ap of-judgement (c .enum-told .given .1))
 
 array-write-marks : tie.Need-array-write-marks Inv-loop μ-loop
