@@ -5,6 +5,7 @@ pub mod Doubles
 pub mod Kept
 pub mod Largest
 pub mod Numerator
+pub mod Parts
 pub mod Theorem
 pub mod Mapped
 pub mod Examples

@@ -1,4 +1,4 @@
--- The bits of the single: they are no NaN's, the single has them, and what their fields say. Assumes nothing.
+-- The bits of the single: they are no NaN's, the single has them, and what IEEE 754 reads in them. Assumes nothing.
 use mathlib.Core.Path.{_≡_, sym, ap, _∙_, subst}
 use mathlib.Core.Logic.{⊎-elim, _≢_}
 use mathlib.Core.Bool.{Bool, false, cond, not}
@@ -18,18 +18,6 @@ pub positive-bits : (L v : ℕ) → 0 < v → lower-bits L v ≡ (125 - leadingZ
 positive-bits L v positive =
     let other : v ≢ 0 = omega arith in
     ap (λ (b : Bool). cond b 0 ((125 - leadingZeros L v) * 2 ^ 23 + leading-digits L v)) (ne-eqb v 0 other)
-
--- the exponent's field
-pub field-is : {L v : ℕ} → WideEnough L → 0 < v → v < 2 ^ L → lower-bits L v / 2 ^ 23 ≡ 126 - leadingZeros L v
-field-is {L} {v} wide positive below =
-    let most = wide .at-most in
-    let few = zeros-lt L v positive below in
-    let lo = digits-ge L v positive below (wide .at-least) in
-    let hi = digits-lt L v positive below (wide .at-least) in
-    ap (λ (n : ℕ). n / 2 ^ 23) (positive-bits L v positive) ∙ carried (leadingZeros L v) (leading-digits L v) (omega arith) lo hi
-  where
-    carried : (z t : ℕ) → z ≤ 125 → 2 ^ 23 ≤ t → t < 2 ^ 24 → ((125 - z) * 2 ^ 23 + t) / 2 ^ 23 ≡ 126 - z
-    carried z t small lo hi = omega arith
 
 -- all are below the pattern of 1
 pub bits-lt : {L v : ℕ} → 24 ≤ L → v < 2 ^ L → lower-bits L v < 127 * 2 ^ 23
@@ -58,19 +46,30 @@ bits-written {L} {v} least below =
     toBits-ofBits binary32 n (lt-of-lt-of-le (bits-lt least below) (lit≤ tt))
     (subst (λ (b : Bool). T (not b)) (nanBits-is binary32 n) (not-nan least below))
 
--- the value of 24 digits t, the highest not 0, that are added to the field k of the exponent
-pub pattern : (k t : ℕ) → k ≤ 125 → 2 ^ 23 ≤ t → t < 2 ^ 24 → ofBits binary32 (k * 2 ^ 23 + t) ≡ odd 24 false t k 149
-unfolding ofBits ofFields
-pattern k t small lo hi =
-    let b = k * 8388608 + t in
-    let rest = t - 8388608 in
+-- the sign 0, the exponent field e and the stored digits t are read as such
+pub parts-read : (e t : ℕ) → e ≤ 126 → t < 2 ^ 23 → ofBits binary32 (e * 2 ^ 23 + t) ≡ ofFields binary32 false e t
+unfolding ofBits
+parts-read e t small short =
+    let b = e * 8388608 + t in
     let sign : leb 2147483648 b ≡ false = lt-leb 2147483648 b (omega arith) in
-    let field : b % 2147483648 / 8388608 ≡ suc k = omega arith in
-    let low : b % 8388608 ≡ rest = omega arith in
-    let finite : suc k ≢ 255 = omega arith in
-    let again : 8388608 + rest ≡ t = omega arith in
+    let field : b % 2147483648 / 8388608 ≡ e = omega arith in
+    let low : b % 8388608 ≡ t = omega arith in
     ap (λ (s : Bool). ofFields binary32 s (b % 2147483648 / 8388608) (b % 8388608)) sign
     ∙ ap (λ (x : ℕ). ofFields binary32 false x (b % 8388608)) field
-    ∙ ap (λ (x : ℕ). ofFields binary32 false (suc k) x) low
-    ∙ ap (λ (c : Bool). cond c (cond (eqb rest 0) (inf false) nan) (odd 24 false (8388608 + rest) k 149)) (ne-eqb (suc k) 255 finite)
+    ∙ ap (λ (x : ℕ). ofFields binary32 false e x) low
+
+-- a field that is not 0 has a leading one before the stored digits
+pub normal : (k t : ℕ) → k ≤ 125 → ofFields binary32 false (suc k) t ≡ odd 24 false (2 ^ 23 + t) k 149
+unfolding ofFields
+normal k t small =
+    let finite : suc k ≢ 255 = omega arith in
+    ap (λ (c : Bool). cond c (cond (eqb t 0) (inf false) nan) (odd 24 false (8388608 + t) k 149)) (ne-eqb (suc k) 255 finite)
+
+-- the value of 24 digits t, the highest not 0, that are added to the field k of the exponent
+pub pattern : (k t : ℕ) → k ≤ 125 → 2 ^ 23 ≤ t → t < 2 ^ 24 → ofBits binary32 (k * 2 ^ 23 + t) ≡ odd 24 false t k 149
+pattern k t small lo hi =
+    let rest = t - 8388608 in
+    let same : k * 8388608 + t ≡ suc k * 8388608 + rest = omega arith in
+    let again : 8388608 + rest ≡ t = omega arith in
+    ap (ofBits binary32) same ∙ parts-read (suc k) rest (omega arith) (omega arith) ∙ normal k rest small
     ∙ ap (λ (x : ℕ). odd 24 false x k 149) again

@@ -11,10 +11,11 @@ use Rattle.unit.specs.Quotient.{nearest-double, lower-single}
 use Rattle.unit.specs.Word.{numerator, width, double, single}
 use Rattle.unit.specs.Singles.{visit-singles}
 use Rattle.unit.specs.Theorem.{WideEnough, InStrip, Rounded, Theorems}
-use Rattle.unit.proofs.Patterns.{field-is, bits-written}
+use Rattle.unit.proofs.Patterns.{bits-written}
 use Rattle.unit.proofs.Doubles.{double-value}
 use Rattle.unit.proofs.Kept as K
 use Rattle.unit.proofs.Largest.{single-largest}
+use Rattle.unit.proofs.Parts.{entries, field-rule, field-at-32, words-of, laid-out}
 use Rattle.unit.proofs.Numerator.{wide-enough, numerator-lt, numerator-top}
 
 quotients : {L : ℕ} → WideEnough L → {v : ℕ} → v < 2 ^ L → Rounded L v (nearest-double L v) (lower-single L v)
@@ -43,7 +44,11 @@ theorems = record {
   shortfall = λ w below. of-word w below .shortfall;
   strip = strip;
   bits = λ w below. bits-written (wide-enough .at-least) (numerator-lt w below);
-  exponent-field = λ w below positive. field-is wide-enough positive (numerator-lt w below);
+  entries = entries;
+  field-rule = field-rule;
+  field-at-32 = field-at-32;
+  words-of = words-of;
+  laid-out = laid-out;
   zero-bits = bits-written (wide-enough .at-least) (numerator-lt 0 (lit< tt));
   zero = zero;
   steps = λ S start count w accepts n. steps start count w accepts n (visit-singles S);

@@ -1,4 +1,5 @@
 pub mod Quotient
+pub mod Parts
 pub mod Word
 pub mod Singles
 pub mod Theorem

@@ -1,12 +1,14 @@
 -- What is proved of unit numbers. First the statements, of any number v / 2 ^ L; at the end `Theorems`, of which proofs/Theorem gives one term:
 -- for every v and L within bounds, and for every word. `HasValue x false a c` (kit): x is finite, its sign is +, and it is a / c.
 use mathlib.Core.Path.{_≡_}
+use mathlib.Core.Logic.{_↔_}
 use mathlib.Core.Bool.{false}
-use Prim.Native.Nat.{ℕ, _-_, _*_, _/_, _^_, _≤_, _<_}
+use Prim.Native.Nat.{ℕ, _+_, _-_, _*_, _/_, _^_, _≤_, _<_}
 use lib.Dec.{T}
 use lib.Count.{leadingZeros}
 use lib.IntN.{pos}
-use lib.Ieee.{Float, nan, inf, fin, Format, binary32, up, down, fits, le, toBits}
+use lib.ListN.{length}
+use lib.Ieee.{Float, nan, inf, fin, Format, binary32, up, down, fits, le, ofFields, toBits}
 use lib.Ieee.Exact.{HasValue}
 use Rattle.ranges.specs.Walk.{Walk, answers, visits-then-end}
 use Rattle.net.specs.Sequence.{Sequence, top}
@@ -14,6 +16,7 @@ use Rattle.refusal.specs.Outcome.{accepted}
 use Rattle.word.specs.Index.{index-count, last-index}
 use Rattle.plan.specs.Walk.{open-outcome}
 use Rattle.unit.specs.Quotient.{nearest-double, lower-single}
+use Rattle.unit.specs.Parts.{exponent-fields, exponent-field, stored-digits}
 use Rattle.unit.specs.Word.{numerator, width, double, single-bits, single}
 use Rattle.unit.specs.Singles.{visit-singles}
 
@@ -53,6 +56,16 @@ pub record Rounded (L v : ℕ) (d x : Float) : Type 0 where
   pub shortfall : Shortfall L v x
   pub strip : (n : ℕ) → n ≤ 24 → InStrip n (top 2 L n v) x
 
+-- The bits b of the single x, by IEEE 754 as the kit has it: from the top the sign, which is 0, the exponent field e, and the 23 stored digits t.
+-- The kit reads these three (`ofFields`) as x. Where e is not 0 that is (1 + t / 2 ^ 23) * 2 ^ (e - 127): the field is the exponent with the
+-- bias 127, and the leading one is not stored.
+pub record LaidOut (x : Float) (b e t : ℕ) : Type 0 where
+  pub bits : b ≡ e * 2 ^ 23 + t
+  pub stored : t < 2 ^ 23
+  pub sign : b / 2 ^ 31 ≡ 0
+  pub reading : x ≡ ofFields binary32 false e t
+  pub value : 0 < e → HasValue x false (2 ^ 23 + t) (2 ^ (23 + (127 - e)))
+
 pub record Theorems : Type 0 where
   pub quotients : {L : ℕ} → WideEnough L → {v : ℕ} → v < 2 ^ L → Rounded L v (nearest-double L v) (lower-single L v)
   -- of every word w, whose exact value is numerator w / 2 ^ width: w / 2 ^ 32
@@ -62,7 +75,13 @@ pub record Theorems : Type 0 where
   pub shortfall : (w : ℕ) → w < 2 ^ 32 → Shortfall width (numerator w) (single w)
   pub strip : (w : ℕ) → w < 2 ^ 32 → (n : ℕ) → n ≤ 24 → InStrip n (top 2 32 n w) (single w)
   pub bits : (w : ℕ) → w < 2 ^ 32 → toBits binary32 (single w) ≡ single-bits w
-  pub exponent-field : (w : ℕ) → w < 2 ^ 32 → 0 < numerator w → single-bits w / 2 ^ 23 ≡ 126 - leadingZeros width (numerator w)
+  -- C-13: the table by its rule, the words of each entry, and every word's single by the entry of its leading zeros
+  pub entries : length exponent-fields ≡ 33
+  pub field-rule : (z : ℕ) → z ≤ 31 → exponent-field z ≡ 126 - z
+  pub field-at-32 : exponent-field 32 ≡ 0
+  pub words-of : (z w : ℕ) → z ≤ 32 → w < 2 ^ 32 → (leadingZeros 32 w ≡ z) ↔ ((2 ^ (32 - z) / 2 ≤ w) × (w < 2 ^ (32 - z)))
+  pub laid-out : (w : ℕ) → w < 2 ^ 32
+      → LaidOut (single w) (single-bits w) (exponent-field (leadingZeros 32 w)) (stored-digits width (numerator w))
   -- of the word 0: +0.0
   pub zero-bits : toBits binary32 (single 0) ≡ 0
   pub zero : single 0 ≡ fin false 0 (pos 0)

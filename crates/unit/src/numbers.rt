@@ -1,4 +1,5 @@
 // A word as a number from 0 up to 1: its double, its single, and either of them with its kind.
+use crate::exponents;
 ghost use mathlib.Core.Path.{_≡_};
 ghost use Rattle.unit.specs.Word.{double, single-bits, single, unit-number};
 
@@ -38,19 +39,16 @@ pub fn single(word: u32) -> f32
     f32::from_bits(single_bits(word))
 }
 
-// The exponent's field of a single stands above its 23 stored digits.
-const FIELD: u32 = 8388608;
+// The weight of the exponent field, which stands above the 23 stored digits of a single.
+const EXPONENT_WEIGHT: u32 = 8388608;
 
-// The bits of that single. The 24 leading digits of the word are kept and the others cut off. The first of them is a one, which a single
-// does not store: it adds one to the exponent's field.
+// The bits of that single: sign 0, the exponent field, and of the word's digits the 23 after its leading one, which a single does not store.
+// The digits after those are cut off. Word 0 has no leading one, and all its bits are 0.
 fn single_bits(word: u32) -> u32
     ensures { λ r. ⌜ r ≡ single-bits word ⌝ }
 {
-    if word == 0 {
-        return 0;
-    }
     let z = u32::leading_zeros(word);
-    let moved = word << z;
-    let kept = moved >> 8;
-    (125 - z) * FIELD + kept
+    let moved = (word as u64) << z;
+    let stored = (moved >> 8) as u32 % EXPONENT_WEIGHT;
+    exponents::exponent_field(z) * EXPONENT_WEIGHT + stored
 }

@@ -1,6 +1,7 @@
-//! A small xorshift generator and random pairs, for the tests only.
+//! A small xorshift generator, random pairs and random words, for the tests only.
 
 use crate::pair::{Pair, Shift};
+use crate::single_cases::{largest_word, smallest_word};
 
 pub struct Random {
     state: u64,
@@ -69,4 +70,16 @@ impl Random {
         }
         pair
     }
+}
+
+/// Zero, the ends of every number of leading zeros, and random words of
+/// every number of leading zeros.
+pub fn some_words() -> Vec<u32> {
+    let mut random = Random::from_seed(24);
+    let mut words = vec![0];
+    for z in 0..32 {
+        words.extend([smallest_word(z), largest_word(z)]);
+        words.extend((0..2_000).map(|_| (random.word() | 0x8000_0000) >> z));
+    }
+    words
 }

@@ -38,19 +38,7 @@ pub fn single(word: u32) -> f32 {
 #[cfg(test)]
 mod tests {
     use super::*;
-    use crate::random::Random;
-
-    /// Zero, the ends of every number of leading zeros, and random words of
-    /// every number of leading zeros.
-    fn some_words() -> Vec<u32> {
-        let mut random = Random::from_seed(24);
-        let mut words = vec![0];
-        for z in 0..32 {
-            words.extend([0x8000_0000 >> z, u32::MAX >> z]);
-            words.extend((0..2_000).map(|_| (random.word() | 0x8000_0000) >> z));
-        }
-        words
-    }
+    use crate::random::some_words;
 
     /// No single here is negative, so the next one up has the next bits.
     fn one_above(single: f32) -> f32 {

@@ -1,31 +1,46 @@
--- `single_bits`: no digit is shifted out, so the digits kept are those of the definition.
+-- `single_bits`: no digit is shifted out, so the stored digits are those of the definition; field and digits together are the bits.
+use mathlib.Core.Path.{sym, ap, _∙_}
+use Prim.Native.Nat.{ℕ, _+_, _*_, _/_, _%_, _^_, _<_}
 use native.Mathlib.Nat.{mod-eq-of-lt}
 use native.Mathlib.Omega.{arith}
 use borrow.Author.Needs.{needs}
-use borrow.Author.Tests.{eq-eqb, ne-eqb}
-use Rattle.unit.proofs.Leading.{zeros-lt, moved-lt}
+use lib.Count.{leadingZeros, leading-le}
+use Rattle.unit.specs.Parts.{exponent-field}
+use Rattle.unit.proofs.Leading.{moved-lt}
+use Rattle.unit.proofs.Parts.{field-le, together}
 use Rattle.unit.proofs.numbers.single_bits.Statement.{statement}
 use Rattle.unit.proofs.numbers.single_bits.Tie as tie
 
-returns : tie.Need-returns
-returns c = simp (eq-eqb _ _ (c .if1 .taken))
+cast-moved : tie.Need-cast-moved
+cast-moved c = let few = leading-le 32 (c .args .word) in record { fits = omega arith }
 
 shl-moved : tie.Need-shl-moved
-shl-moved c = zeros-lt 32 (c .before .args .word) (omega arith) (c .before .fits .word .fits)
+shl-moved c = let few = leading-le 32 (c .args .word) in omega arith
 
-sub-result : tie.Need-sub-result
-sub-result c = omega (arith, zeros-lt 32 (c .before .args .word) (omega arith) (c .before .fits .word .fits))
+cast-stored : tie.Need-cast-stored
+cast-stored c = let moved = moved-lt 32 (c .args .word) (c .fits .word .fits) in record { fits = omega arith }
+
+exponent-field-requires : tie.Need-exponent-field-requires
+exponent-field-requires c κs = leading-le 32 (c .args .word)
 
 mul-result : tie.Need-mul-result
-mul-result c = search needs
+mul-result c =
+    let z = leadingZeros 32 (c .before .args .word) in
+    record { fits = omega (arith, c .exponent-field .ensures, field-le z (leading-le 32 (c .before .args .word))) }
 
 add-result : tie.Need-add-result
-add-result c = search needs
+add-result c =
+    let z = leadingZeros 32 (c .before .args .word) in
+    record { fits = omega (arith, c .exponent-field .ensures, field-le z (leading-le 32 (c .before .args .word))) }
 
-returns-2 : tie.Need-returns-2
-returns-2 c =
+returns : tie.Need-returns
+returns c =
+    let w = c .before .args .word in
     let fits = c .before .fits .word .fits in
-    simp (ne-eqb _ _ (c .if1 .left), mod-eq-of-lt (moved-lt 32 (c .before .args .word) (omega arith) fits))
+    let z = leadingZeros 32 w in
+    let wide : w * 2 ^ z < 18446744073709551616 = let moved = moved-lt 32 w fits in omega arith in
+    ap (λ (e : ℕ). e * 8388608 + w * 2 ^ z % 18446744073709551616 / 256 % 8388608) (c .exponent-field .ensures)
+    ∙ ap (λ (n : ℕ). exponent-field z * 8388608 + n / 256 % 8388608) (mod-eq-of-lt wide) ∙ sym (together w fits)
 
 pub single-bits-spec : {M : Type 1} → statement M
-single-bits-spec = tie.close (tie.spec returns shl-moved sub-result mul-result add-result returns-2)
+single-bits-spec = tie.close (tie.spec cast-moved shl-moved cast-stored exponent-field-requires mul-result add-result returns)

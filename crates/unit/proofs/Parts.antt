@@ -1,0 +1,154 @@
+-- The parts of a single: the table of exponent fields by its rule, and the bits of every word's single by field and stored digits. Assumes nothing.
+use mathlib.Core.Path.{_≡_, refl, sym, ap, _∙_, subst}
+use mathlib.Core.Logic.{⊎-elim, _≢_, _↔_}
+use mathlib.Core.Bool.{Bool, true, false, cond}
+use mathlib.Core.List.{List, map}
+use Prim.Native.Nat.{ℕ, zero, suc, _+_, _-_, _*_, _/_, _%_, _^_, _≤_, _<_, zero-le}
+use native.Mathlib.Nat.{eq-zero-or-pos, le-refl, zero-add, mul-assoc, mod-lt}
+use native.Mathlib.Omega.{arith}
+use borrow.Author.Tests.{lt-ltb}
+use lib.Dec.{ltb}
+use lib.Count.{leadingZeros, leading-le, leading-length, leading-unique}
+use lib.ListN.{length, getD}
+use lib.Pow.{pow-pos}
+use lib.Ieee.{Float, binary32, odd, ofFields, ofBits}
+use lib.Ieee.Exact.{HasValue, odd-sign}
+use Rattle.ranges.specs.Range.{range}
+use Rattle.ranges.proofs.Range.{getD-each}
+use Rattle.unit.specs.Quotient.{leading-digits, lower-bits}
+use Rattle.unit.specs.Parts.{exponent-fields, exponent-field, stored-digits}
+use Rattle.unit.specs.Word.{numerator, width, single-bits, single}
+use Rattle.unit.specs.Theorem.{WideEnough, LaidOut}
+use Rattle.unit.proofs.Powers.{powers, rescale}
+use Rattle.unit.proofs.Leading.{zeros-lt, digits-lt, digits-ge}
+use Rattle.unit.proofs.Patterns.{positive-bits, parts-read, normal}
+use Rattle.unit.proofs.Numerator.{wide-enough, numerator-lt, numerator-zeros}
+
+-- z is none of the numbers below n, as a `match` tells it to its last arm
+abbrev pub NoneBelow : ℕ → ℕ → Type 0
+NoneBelow zero z = Unit {0}
+NoneBelow (suc n) z = NoneBelow n z × (z ≢ n)
+
+pub none-below : (n z : ℕ) → NoneBelow n z → n ≤ z
+none-below zero z none = zero-le
+none-below (suc n) z none =
+    let other = none .1 in
+    omega (arith, none-below n z (none .0))
+
+-- ---- the table
+
+abbrev rule : ℕ → ℕ
+rule z = cond (ltb z 32) (126 - z) 0
+
+pub entries : length exponent-fields ≡ 33
+unfolding exponent-fields
+entries = refl
+
+-- one test, computed over the whole table
+tested : exponent-fields ≡ map rule (range 0 33)
+unfolding exponent-fields range
+tested = refl
+
+by-rule : (z : ℕ) → z ≤ 32 → exponent-field z ≡ rule z
+by-rule z small =
+    ap (λ (table : List ℕ). getD table z 0) tested ∙ getD-each rule 0 33 z 0 (omega arith) ∙ ap rule (zero-add z)
+
+pub field-rule : (z : ℕ) → z ≤ 31 → exponent-field z ≡ 126 - z
+field-rule z small = by-rule z (omega arith) ∙ ap (λ (b : Bool). cond b (126 - z) 0) (lt-ltb z 32 (omega arith))
+
+pub field-at-32 : exponent-field 32 ≡ 0
+field-at-32 = by-rule 32 (le-refl 32)
+
+pub field-le : (z : ℕ) → z ≤ 32 → exponent-field z ≤ 126
+field-le z small = subst (λ (e : ℕ). e ≤ 126) (sym (by-rule z small)) (either (ltb z 32))
+  where
+    either : (b : Bool) → cond b (126 - z) 0 ≤ 126
+    either true = omega arith
+    either false = zero-le
+
+-- ---- the bits
+
+-- of a number above 0: the leading one has added 1 to the exponent field, and is not stored
+positive-parts : {L v : ℕ} → WideEnough L → 0 < v → v < 2 ^ L → lower-bits L v ≡ (126 - leadingZeros L v) * 2 ^ 23 + stored-digits L v
+positive-parts {L} {v} wide positive below =
+    let most = wide .at-most in
+    let few = zeros-lt L v positive below in
+    let lo = digits-ge L v positive below (wide .at-least) in
+    let hi = digits-lt L v positive below (wide .at-least) in
+    positive-bits L v positive ∙ carried (leadingZeros L v) (leading-digits L v) (omega arith) lo hi
+  where
+    carried : (z t : ℕ) → z ≤ 125 → 2 ^ 23 ≤ t → t < 2 ^ 24 → (125 - z) * 2 ^ 23 + t ≡ (126 - z) * 2 ^ 23 + t % 2 ^ 23
+    carried z t small lo hi = omega arith
+
+abbrev Together : ℕ → Type 0
+Together w = single-bits w ≡ exponent-field (leadingZeros 32 w) * 2 ^ 23 + stored-digits width (numerator w)
+
+zero-together : Together 0
+unfolding exponent-fields leadingZeros
+zero-together = refl
+
+pub together : (w : ℕ) → w < 2 ^ 32 → Together w
+together w below = ⊎-elim none some (eq-zero-or-pos w)
+  where
+    none : w ≡ 0 → Together w
+    none e = subst Together (sym e) zero-together
+
+    some : 0 < w → Together w
+    some positive =
+        let few = zeros-lt 32 w positive below in
+        let z : 126 - leadingZeros width (numerator w) ≡ exponent-field (leadingZeros 32 w)
+        = ap (λ (n : ℕ). 126 - n) (numerator-zeros w) ∙ sym (field-rule (leadingZeros 32 w) (omega arith)) in
+        positive-parts wide-enough positive (numerator-lt w below) ∙ ap (λ (e : ℕ). e * 2 ^ 23 + stored-digits width (numerator w)) z
+
+-- ---- what the parts mean
+
+value : (e t : ℕ) → 0 < e → e ≤ 126 → HasValue (ofFields binary32 false e t) false (2 ^ 23 + t) (2 ^ (23 + (127 - e)))
+value zero t some small = absurd (omega arith)
+value (suc k) t some small =
+    let x = odd 24 false (2 ^ 23 + t) k 149 in
+    let all : k + (23 + (127 - suc k)) ≡ 149 = omega arith in
+    subst (λ (y : Float). HasValue y false (2 ^ 23 + t) (2 ^ (23 + (127 - suc k)))) (sym (normal k t (omega arith)))
+    (rescale x false ((2 ^ 23 + t) * 2 ^ k) (2 ^ 149) (2 ^ 23 + t) (2 ^ (23 + (127 - suc k))) (pow-pos 149)
+    (scaled (2 ^ 23 + t) (2 ^ k) (2 ^ (23 + (127 - suc k))) (2 ^ 149) (powers k (23 + (127 - suc k)) 149 all))
+    (odd-sign 24 false (2 ^ 23 + t) k 149))
+  where
+    scaled : (m a b c : ℕ) → a * b ≡ c → m * a * b ≡ m * c
+    scaled m a b c e = mul-assoc m a b ∙ ap (λ (x : ℕ). m * x) e
+
+pub laid-out : (w : ℕ) → w < 2 ^ 32 → LaidOut (single w) (single-bits w) (exponent-field (leadingZeros 32 w)) (stored-digits width (numerator w))
+laid-out w below =
+    let z = leadingZeros 32 w in
+    let e = exponent-field z in
+    let t = stored-digits width (numerator w) in
+    let small = field-le z (leading-le 32 w) in
+    let short : t < 2 ^ 23 = mod-lt (leading-digits width (numerator w)) (pow-pos 23) in
+    let read : single w ≡ ofFields binary32 false e t = ap (ofBits binary32) (together w below) ∙ parts-read e t small short in
+    record {
+      bits = together w below;
+      stored = short;
+      sign = ap (λ (b : ℕ). b / 2 ^ 31) (together w below) ∙ no-sign e t small short;
+      reading = read;
+      value = λ some. subst (λ (x : Float). HasValue x false (2 ^ 23 + t) (2 ^ (23 + (127 - e)))) (sym read) (value e t some small);
+    }
+  where
+    no-sign : (e t : ℕ) → e ≤ 126 → t < 2 ^ 23 → (e * 2 ^ 23 + t) / 2 ^ 31 ≡ 0
+    no-sign e t small short = omega arith
+
+-- the words with z leading zeros
+pub words-of : (z w : ℕ) → z ≤ 32 → w < 2 ^ 32 → (leadingZeros 32 w ≡ z) ↔ ((2 ^ (32 - z) / 2 ≤ w) × (w < 2 ^ (32 - z)))
+words-of z w small below = (ends, λ within. zeros (within .0) (within .1))
+  where
+    ends : leadingZeros 32 w ≡ z → (2 ^ (32 - z) / 2 ≤ w) × (w < 2 ^ (32 - z))
+    ends e =
+        let length = leading-length 32 w below in
+        let m : length .0 ≡ 32 - z = omega (arith, e, length .1) in
+        subst (λ (k : ℕ). (2 ^ k / 2 ≤ w) × (w < 2 ^ k)) m (halved (2 ^ (length .0)) (length .3), length .2)
+      where
+        halved : (n : ℕ) → n ≤ 2 * w + 1 → n / 2 ≤ w
+        halved n h = omega arith
+
+    zeros : 2 ^ (32 - z) / 2 ≤ w → w < 2 ^ (32 - z) → leadingZeros 32 w ≡ z
+    zeros least most = sym (leading-unique 32 w z (32 - z) (omega arith) most (doubled (2 ^ (32 - z)) least))
+      where
+        doubled : (n : ℕ) → n / 2 ≤ w → n ≤ 2 * w + 1
+        doubled n h = omega arith
