@@ -4,6 +4,7 @@ pub mod Patterns
 pub mod Doubles
 pub mod Kept
 pub mod Largest
+pub mod Table
 pub mod Numerator
 pub mod Parts
 pub mod Theorem

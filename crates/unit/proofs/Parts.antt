@@ -1,20 +1,14 @@
--- The parts of a single: the table of exponent fields by its rule, and the bits of every word's single by field and stored digits. Assumes nothing.
+-- The bits of every word's single by exponent field and stored digits, what they mean, and the words of each field. Assumes nothing.
 use mathlib.Core.Path.{_≡_, refl, sym, ap, _∙_, subst}
-use mathlib.Core.Logic.{⊎-elim, _≢_, _↔_}
-use mathlib.Core.Bool.{Bool, true, false, cond}
-use mathlib.Core.List.{List, map}
-use Prim.Native.Nat.{ℕ, zero, suc, _+_, _-_, _*_, _/_, _%_, _^_, _≤_, _<_, zero-le}
-use native.Mathlib.Nat.{eq-zero-or-pos, le-refl, zero-add, mul-assoc, mod-lt}
+use mathlib.Core.Logic.{⊎-elim, _↔_}
+use mathlib.Core.Bool.{false}
+use Prim.Native.Nat.{ℕ, zero, suc, _+_, _-_, _*_, _/_, _%_, _^_, _≤_, _<_}
+use native.Mathlib.Nat.{eq-zero-or-pos, mul-assoc, mod-lt}
 use native.Mathlib.Omega.{arith}
-use borrow.Author.Tests.{lt-ltb}
-use lib.Dec.{ltb}
 use lib.Count.{leadingZeros, leading-le, leading-length, leading-unique}
-use lib.ListN.{length, getD}
 use lib.Pow.{pow-pos}
 use lib.Ieee.{Float, binary32, odd, ofFields, ofBits}
 use lib.Ieee.Exact.{HasValue, odd-sign}
-use Rattle.ranges.specs.Range.{range}
-use Rattle.ranges.proofs.Range.{getD-each}
 use Rattle.unit.specs.Quotient.{leading-digits, lower-bits}
 use Rattle.unit.specs.Parts.{exponent-fields, exponent-field, stored-digits}
 use Rattle.unit.specs.Word.{numerator, width, single-bits, single}
@@ -22,49 +16,8 @@ use Rattle.unit.specs.Theorem.{WideEnough, LaidOut}
 use Rattle.unit.proofs.Powers.{powers, rescale}
 use Rattle.unit.proofs.Leading.{zeros-lt, digits-lt, digits-ge}
 use Rattle.unit.proofs.Patterns.{positive-bits, parts-read, normal}
+use Rattle.unit.proofs.Table.{field-rule, field-le}
 use Rattle.unit.proofs.Numerator.{wide-enough, numerator-lt, numerator-zeros}
-
--- z is none of the numbers below n, as a `match` tells it to its last arm
-abbrev pub NoneBelow : ℕ → ℕ → Type 0
-NoneBelow zero z = Unit {0}
-NoneBelow (suc n) z = NoneBelow n z × (z ≢ n)
-
-pub none-below : (n z : ℕ) → NoneBelow n z → n ≤ z
-none-below zero z none = zero-le
-none-below (suc n) z none =
-    let other = none .1 in
-    omega (arith, none-below n z (none .0))
-
--- ---- the table
-
-abbrev rule : ℕ → ℕ
-rule z = cond (ltb z 32) (126 - z) 0
-
-pub entries : length exponent-fields ≡ 33
-unfolding exponent-fields
-entries = refl
-
--- one test, computed over the whole table
-tested : exponent-fields ≡ map rule (range 0 33)
-unfolding exponent-fields range
-tested = refl
-
-by-rule : (z : ℕ) → z ≤ 32 → exponent-field z ≡ rule z
-by-rule z small =
-    ap (λ (table : List ℕ). getD table z 0) tested ∙ getD-each rule 0 33 z 0 (omega arith) ∙ ap rule (zero-add z)
-
-pub field-rule : (z : ℕ) → z ≤ 31 → exponent-field z ≡ 126 - z
-field-rule z small = by-rule z (omega arith) ∙ ap (λ (b : Bool). cond b (126 - z) 0) (lt-ltb z 32 (omega arith))
-
-pub field-at-32 : exponent-field 32 ≡ 0
-field-at-32 = by-rule 32 (le-refl 32)
-
-pub field-le : (z : ℕ) → z ≤ 32 → exponent-field z ≤ 126
-field-le z small = subst (λ (e : ℕ). e ≤ 126) (sym (by-rule z small)) (either (ltb z 32))
-  where
-    either : (b : Bool) → cond b (126 - z) 0 ≤ 126
-    either true = omega arith
-    either false = zero-le
 
 -- ---- the bits
 
@@ -96,9 +49,9 @@ together w below = ⊎-elim none some (eq-zero-or-pos w)
     some : 0 < w → Together w
     some positive =
         let few = zeros-lt 32 w positive below in
-        let z : 126 - leadingZeros width (numerator w) ≡ exponent-field (leadingZeros 32 w)
-        = ap (λ (n : ℕ). 126 - n) (numerator-zeros w) ∙ sym (field-rule (leadingZeros 32 w) (omega arith)) in
-        positive-parts wide-enough positive (numerator-lt w below) ∙ ap (λ (e : ℕ). e * 2 ^ 23 + stored-digits width (numerator w)) z
+        positive-parts wide-enough positive (numerator-lt w below)
+        ∙ ap (λ (z : ℕ). (126 - z) * 2 ^ 23 + stored-digits width (numerator w)) (numerator-zeros w)
+        ∙ ap (λ (e : ℕ). e * 2 ^ 23 + stored-digits width (numerator w)) (sym (field-rule (leadingZeros 32 w) (omega arith)))
 
 -- ---- what the parts mean
 
@@ -127,12 +80,17 @@ laid-out w below =
       bits = together w below;
       stored = short;
       sign = ap (λ (b : ℕ). b / 2 ^ 31) (together w below) ∙ no-sign e t small short;
+      field = ap (λ (b : ℕ). b / 2 ^ 23) (together w below) ∙ above e t short;
+      negative = omega arith;
       reading = read;
       value = λ some. subst (λ (x : Float). HasValue x false (2 ^ 23 + t) (2 ^ (23 + (127 - e)))) (sym read) (value e t some small);
     }
   where
     no-sign : (e t : ℕ) → e ≤ 126 → t < 2 ^ 23 → (e * 2 ^ 23 + t) / 2 ^ 31 ≡ 0
     no-sign e t small short = omega arith
+
+    above : (e t : ℕ) → t < 2 ^ 23 → (e * 2 ^ 23 + t) / 2 ^ 23 ≡ e
+    above e t short = omega arith
 
 -- the words with z leading zeros
 pub words-of : (z w : ℕ) → z ≤ 32 → w < 2 ^ 32 → (leadingZeros 32 w ≡ z) ↔ ((2 ^ (32 - z) / 2 ≤ w) × (w < 2 ^ (32 - z)))

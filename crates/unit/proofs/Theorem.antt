@@ -15,7 +15,8 @@ use Rattle.unit.proofs.Patterns.{bits-written}
 use Rattle.unit.proofs.Doubles.{double-value}
 use Rattle.unit.proofs.Kept as K
 use Rattle.unit.proofs.Largest.{single-largest}
-use Rattle.unit.proofs.Parts.{entries, field-rule, field-at-32, words-of, laid-out}
+use Rattle.unit.proofs.Table.{entries, field-rule, field-at-32}
+use Rattle.unit.proofs.Parts.{words-of, laid-out}
 use Rattle.unit.proofs.Numerator.{wide-enough, numerator-lt, numerator-top}
 
 quotients : {L : ℕ} → WideEnough L → {v : ℕ} → v < 2 ^ L → Rounded L v (nearest-double L v) (lower-single L v)

@@ -58,11 +58,13 @@ pub record Rounded (L v : ℕ) (d x : Float) : Type 0 where
 
 -- The bits b of the single x, by IEEE 754 as the kit has it: from the top the sign, which is 0, the exponent field e, and the 23 stored digits t.
 -- The kit reads these three (`ofFields`) as x. Where e is not 0 that is (1 + t / 2 ^ 23) * 2 ^ (e - 127): the field is the exponent with the
--- bias 127, and the leading one is not stored.
+-- bias 127 (it is negative here), and the leading one is not stored.
 pub record LaidOut (x : Float) (b e t : ℕ) : Type 0 where
   pub bits : b ≡ e * 2 ^ 23 + t
   pub stored : t < 2 ^ 23
   pub sign : b / 2 ^ 31 ≡ 0
+  pub field : b / 2 ^ 23 ≡ e
+  pub negative : e < 127
   pub reading : x ≡ ofFields binary32 false e t
   pub value : 0 < e → HasValue x false (2 ^ 23 + t) (2 ^ (23 + (127 - e)))
 

@@ -2,7 +2,7 @@
 use mathlib.Core.Path.{sym, ap}
 use native.Mathlib.Omega.{arith}
 use Rattle.unit.specs.Parts.{exponent-field, exponent-fields}
-use Rattle.unit.proofs.Parts.{none-below}
+use Rattle.unit.proofs.Table.{none-below}
 use Rattle.unit.proofs.exponents.exponent_field.Statement.{statement}
 use Rattle.unit.proofs.exponents.exponent_field.Tie as tie
 
@@ -142,4 +142,8 @@ returns-34 : tie.Need-returns-34
 returns-34 c = absurd (omega (arith, none-below 33 (c .before .args .z) (c .match .rest)))
 
 pub exponent-field-spec : {M : Type 1} → statement M
-exponent-field-spec = tie.close (tie.spec returns returns-2 returns-3 returns-4 returns-5 returns-6 returns-7 returns-8 returns-9 returns-10 returns-11 returns-12 returns-13 returns-14 returns-15 returns-16 returns-17 returns-18 returns-19 returns-20 returns-21 returns-22 returns-23 returns-24 returns-25 returns-26 returns-27 returns-28 returns-29 returns-30 returns-31 returns-32 returns-33 returns-34)
+exponent-field-spec =
+    tie.close (tie.spec
+    returns returns-2 returns-3 returns-4 returns-5 returns-6 returns-7 returns-8 returns-9 returns-10 returns-11 returns-12 returns-13 returns-14
+    returns-15 returns-16 returns-17 returns-18 returns-19 returns-20 returns-21 returns-22 returns-23 returns-24 returns-25 returns-26 returns-27
+    returns-28 returns-29 returns-30 returns-31 returns-32 returns-33 returns-34)

@@ -7,7 +7,8 @@ use borrow.Author.Needs.{needs}
 use lib.Count.{leadingZeros, leading-le}
 use Rattle.unit.specs.Parts.{exponent-field}
 use Rattle.unit.proofs.Leading.{moved-lt}
-use Rattle.unit.proofs.Parts.{field-le, together}
+use Rattle.unit.proofs.Table.{field-le}
+use Rattle.unit.proofs.Parts.{together}
 use Rattle.unit.proofs.numbers.single_bits.Statement.{statement}
 use Rattle.unit.proofs.numbers.single_bits.Tie as tie
 
