@@ -41,6 +41,7 @@ void compare(Report& report, const std::string& python) {
     compare_scipy(report, python);
     compare_points(report);
     compare_cells(report);
+    compare_singles(report);
     compare_listings(report);
     compare_sheets(report);
 }
@@ -49,9 +50,10 @@ void measure(Report& report, const std::string& python, const std::string& reaso
     say("measuring fills");
     measure_fills(report);
     measure_scipy(report, python, reason);
-    say("measuring points, checks and queries");
+    say("measuring points, checks, queries and singles");
     measure_points(report);
     measure_cells(report);
+    measure_singles(report);
     say("measuring listings and sheets");
     measure_listings(report);
     measure_sheets(report);
