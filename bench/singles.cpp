@@ -60,6 +60,6 @@ void measure_singles(Report& report) {
     race.run(2, 10);
 
     const double work = kWords / 1e6;
-    report.row({"single_vs_cpp", "single / C++ closed form, a call each", "Mwords/s"}, work, race, "ours", "called");
+    report.row({"single_vs_cpp", "single / C++ closed form, a call each", "Mwords/s", 0.84}, work, race, "ours", "called");
     report.row({"single_vs_cpp_inlined", "single / C++ closed form, inlined", "Mwords/s"}, work, race, "ours", "inlined");
 }

@@ -7,11 +7,11 @@ use Rattle.unit.specs.Quotient.{leading-digits}
 -- C-13's table: entry z, from 0 to 32, is the exponent field of the single of a word with z leading zeros
 unfoldable pub exponent-fields : List ℕ
 exponent-fields =
-    126 ∷ 125 ∷ 124 ∷ 123 ∷ 122 ∷ 121 ∷ 120 ∷ 119
-    ∷ 118 ∷ 117 ∷ 116 ∷ 115 ∷ 114 ∷ 113 ∷ 112 ∷ 111
-    ∷ 110 ∷ 109 ∷ 108 ∷ 107 ∷ 106 ∷ 105 ∷ 104 ∷ 103
-    ∷ 102 ∷ 101 ∷ 100 ∷ 99 ∷ 98 ∷ 97 ∷ 96 ∷ 95
-    ∷ 0 ∷ []
+    126 ∷ 125 ∷ 124 ∷ 123 ∷ 122 ∷ 121 ∷ 120 ∷ 119  -- z from 0 to 7
+    ∷ 118 ∷ 117 ∷ 116 ∷ 115 ∷ 114 ∷ 113 ∷ 112 ∷ 111  -- 8 to 15
+    ∷ 110 ∷ 109 ∷ 108 ∷ 107 ∷ 106 ∷ 105 ∷ 104 ∷ 103  -- 16 to 23
+    ∷ 102 ∷ 101 ∷ 100 ∷ 99 ∷ 98 ∷ 97 ∷ 96 ∷ 95  -- 24 to 31
+    ∷ 0 ∷ []  -- 32
 
 abbrev pub exponent-field : ℕ → ℕ
 exponent-field z = getD exponent-fields z 0
