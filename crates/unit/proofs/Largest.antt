@@ -19,7 +19,7 @@ use Rattle.ranges.proofs.Order.{lt-or-ge}
 use Rattle.unit.specs.Quotient.{nearest-double, lower-bits, lower-single}
 use Rattle.unit.specs.Theorem.{WideEnough, Largest}
 use Rattle.unit.proofs.Powers.{powers, three-powers}
-use Rattle.unit.proofs.Leading.{leading-le}
+use Rattle.unit.proofs.Leading.{weight-le}
 use Rattle.unit.proofs.Doubles.{double-value}
 use Rattle.unit.proofs.Kept.{cut, kept, uncut, single-value}
 
@@ -62,7 +62,7 @@ small-bound L v m k below digits h = go (lt-or-ge (leadingZeros L v) (L - 24)) (
     go (inl few) (inl none) =
         let nothing : m * 2 ^ L ≤ 0 = le-trans h (le-of-eq (ap (λ (x : ℕ). x * 2 ^ k) none ∙ zero-mul (2 ^ k))) in
         le-trans nothing zero-le
-    go (inl few) (inr positive) = cut-bound L v (leadingZeros L v) m k few (leading-le L v positive below) digits h
+    go (inl few) (inr positive) = cut-bound L v (leadingZeros L v) m k few (weight-le L v positive below) digits h
     go (inr many) either =
         let none : cut L v ≡ 0 = omega arith in
         subst (λ (x : ℕ). m * 2 ^ L ≤ x * 2 ^ k) (sym (uncut v (cut L v) none)) h

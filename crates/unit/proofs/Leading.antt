@@ -21,19 +21,19 @@ module _ (L v : ℕ) (positive : 0 < v) (below : v < 2 ^ L) where
   zeros-lt = let top = leading-top L v positive below in omega (arith, top .1)
 
   -- the weight of the leading digit
-  pub leading-le : 2 ^ (L - 1 - leadingZeros L v) ≤ v
-  leading-le =
+  pub weight-le : 2 ^ (L - 1 - leadingZeros L v) ≤ v
+  weight-le =
       let top = leading-top L v positive below in
       let place : L - 1 - leadingZeros L v ≡ top .0 = omega (arith, top .1) in
       le-trans (le-of-eq (ap (λ (j : ℕ). 2 ^ j) place)) (top .2)
 
-  -- moved up to its leading digit its highest digit is not 0
+  -- moved up so, its highest digit is not 0
   moved-ge : 2 ^ (L - 1) ≤ v * 2 ^ leadingZeros L v
   moved-ge =
       let z = leadingZeros L v in
       let few = zeros-lt in
       let all : L - 1 - z + z ≡ L - 1 = omega arith in
-      le-trans (le-of-eq (sym (powers (L - 1 - z) z (L - 1) all))) (mul-le-mul-right (2 ^ z) leading-le)
+      le-trans (le-of-eq (sym (powers (L - 1 - z) z (L - 1) all))) (mul-le-mul-right (2 ^ z) weight-le)
 
   -- the 24 digits from the leading one on
   pub digits-lt : 24 ≤ L → leading-digits L v < 2 ^ 24

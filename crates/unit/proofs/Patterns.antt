@@ -11,8 +11,7 @@ use lib.Count.{leadingZeros}
 use lib.Ieee.{nan, inf, binary32, odd, ofFields, ofBits, toBits, nanBits}
 use lib.Ieee.Bits.{nanBits-above, nanBits-is, toBits-ofBits}
 use Rattle.unit.specs.Quotient.{leading-digits, lower-bits, lower-single}
-use Rattle.unit.specs.Theorem.{WideEnough}
-use Rattle.unit.proofs.Leading.{zeros-lt, digits-lt, digits-ge}
+use Rattle.unit.proofs.Leading.{digits-lt}
 
 pub positive-bits : (L v : ℕ) → 0 < v → lower-bits L v ≡ (125 - leadingZeros L v) * 2 ^ 23 + leading-digits L v
 positive-bits L v positive =
@@ -65,7 +64,7 @@ normal k t small =
     let finite : suc k ≢ 255 = omega arith in
     ap (λ (c : Bool). cond c (cond (eqb t 0) (inf false) nan) (odd 24 false (8388608 + t) k 149)) (ne-eqb (suc k) 255 finite)
 
--- the value of 24 digits t, the highest not 0, that are added to the field k of the exponent
+-- the value of 24 digits t, the highest not 0, that are added to the exponent field k
 pub pattern : (k t : ℕ) → k ≤ 125 → 2 ^ 23 ≤ t → t < 2 ^ 24 → ofBits binary32 (k * 2 ^ 23 + t) ≡ odd 24 false t k 149
 pattern k t small lo hi =
     let rest = t - 8388608 in

@@ -14,7 +14,7 @@ use Rattle.ranges.proofs.Range.{getD-each}
 use Rattle.unit.specs.Parts.{exponent-fields, exponent-field}
 
 -- z is none of the numbers below n, as a `match` tells it to its last arm
-abbrev pub NoneBelow : ℕ → ℕ → Type 0
+abbrev NoneBelow : ℕ → ℕ → Type 0
 NoneBelow zero z = Unit {0}
 NoneBelow (suc n) z = NoneBelow n z × (z ≢ n)
 
@@ -46,8 +46,8 @@ field-rule z small = by-rule z (omega arith) ∙ ap (λ (b : Bool). cond b (126 
 pub field-at-32 : exponent-field 32 ≡ 0
 field-at-32 = by-rule 32 (le-refl 32)
 
-pub field-le : (z : ℕ) → z ≤ 32 → exponent-field z ≤ 126
-field-le z small = subst (λ (e : ℕ). e ≤ 126) (sym (by-rule z small)) (either (ltb z 32))
+pub field-le : {e z : ℕ} → z ≤ 32 → e ≡ exponent-field z → e ≤ 126
+field-le {e} {z} small is = subst (λ (x : ℕ). x ≤ 126) (sym (is ∙ by-rule z small)) (either (ltb z 32))
   where
     either : (b : Bool) → cond b (126 - z) 0 ≤ 126
     either true = omega arith

@@ -13,7 +13,7 @@ nearest-double L v = round binary64 false v (2 ^ L)
 abbrev pub leading-digits : ℕ → ℕ → ℕ
 leading-digits L v = v * 2 ^ leadingZeros L v / 2 ^ (L - 24)
 
--- The bits of the largest single not above v / 2 ^ L (Theorem: `largest`): 0 for 0, and else these digits, added to an exponent's field of
+-- The bits of the largest single not above v / 2 ^ L (Theorem: `largest`): 0 for 0, and else these digits, added to an exponent field of
 -- 125 - z. The leading one, which a single does not store, makes the field 126 - z.
 abbrev pub lower-bits : ℕ → ℕ → ℕ
 lower-bits L v = cond (eqb v 0) 0 ((125 - leadingZeros L v) * 2 ^ 23 + leading-digits L v)

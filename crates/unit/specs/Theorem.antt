@@ -58,13 +58,14 @@ pub record Rounded (L v : ℕ) (d x : Float) : Type 0 where
 
 -- The bits b of the single x, by IEEE 754 as the kit has it: from the top the sign, which is 0, the exponent field e, and the 23 stored digits t.
 -- The kit reads these three (`ofFields`) as x. Where e is not 0 that is (1 + t / 2 ^ 23) * 2 ^ (e - 127): the field is the exponent with the
--- bias 127 (it is negative here), and the leading one is not stored.
+-- bias 127, and the leading one is not stored.
 pub record LaidOut (x : Float) (b e t : ℕ) : Type 0 where
   pub bits : b ≡ e * 2 ^ 23 + t
   pub stored : t < 2 ^ 23
+  pub below-bias : e < 127
+  -- which come to
   pub sign : b / 2 ^ 31 ≡ 0
   pub field : b / 2 ^ 23 ≡ e
-  pub negative : e < 127
   pub reading : x ≡ ofFields binary32 false e t
   pub value : 0 < e → HasValue x false (2 ^ 23 + t) (2 ^ (23 + (127 - e)))
 
@@ -77,7 +78,8 @@ pub record Theorems : Type 0 where
   pub shortfall : (w : ℕ) → w < 2 ^ 32 → Shortfall width (numerator w) (single w)
   pub strip : (w : ℕ) → w < 2 ^ 32 → (n : ℕ) → n ≤ 24 → InStrip n (top 2 32 n w) (single w)
   pub bits : (w : ℕ) → w < 2 ^ 32 → toBits binary32 (single w) ≡ single-bits w
-  -- C-13: the table by its rule, the words of each entry, and every word's single by the entry of its leading zeros
+  -- C-13: the table by its rule; the words of each entry, the smallest being 2 ^ (31 - z), and 0 at 32; and every word's single by the entry of
+  -- its leading zeros
   pub entries : length exponent-fields ≡ 33
   pub field-rule : (z : ℕ) → z ≤ 31 → exponent-field z ≡ 126 - z
   pub field-at-32 : exponent-field 32 ≡ 0

@@ -100,17 +100,6 @@ mod tests {
         }
     }
 
-    /// Word 0 has no word before it, and the last word none after it.
-    #[test]
-    fn words_beyond_the_ends_have_another_count() {
-        for (z, _) in CASES {
-            let before = smallest_word(z).checked_sub(1);
-            let after = largest_word(z).checked_add(1);
-            assert_ne!(before.map(u32::leading_zeros), Some(z));
-            assert_ne!(after.map(u32::leading_zeros), Some(z));
-        }
-    }
-
     /// From word 0 on, each range begins where the one before it has ended. The
     /// difference would overflow if a range had its ends the wrong way round.
     #[test]

@@ -3,7 +3,6 @@ use mathlib.Core.Path.{sym, ap, _∙_}
 use Prim.Native.Nat.{ℕ, _+_, _*_, _/_, _%_, _^_, _<_}
 use native.Mathlib.Nat.{mod-eq-of-lt}
 use native.Mathlib.Omega.{arith}
-use borrow.Author.Needs.{needs}
 use lib.Count.{leadingZeros, leading-le}
 use Rattle.unit.specs.Parts.{exponent-field}
 use Rattle.unit.proofs.Leading.{moved-lt}
@@ -25,14 +24,10 @@ exponent-field-requires : tie.Need-exponent-field-requires
 exponent-field-requires c κs = leading-le 32 (c .args .word)
 
 mul-result : tie.Need-mul-result
-mul-result c =
-    let z = leadingZeros 32 (c .before .args .word) in
-    record { fits = omega (arith, c .exponent-field .ensures, field-le z (leading-le 32 (c .before .args .word))) }
+mul-result c = let small = field-le (leading-le 32 (c .before .args .word)) (c .exponent-field .ensures) in record { fits = omega arith }
 
 add-result : tie.Need-add-result
-add-result c =
-    let z = leadingZeros 32 (c .before .args .word) in
-    record { fits = omega (arith, c .exponent-field .ensures, field-le z (leading-le 32 (c .before .args .word))) }
+add-result c = let small = field-le (leading-le 32 (c .before .args .word)) (c .exponent-field .ensures) in record { fits = omega arith }
 
 returns : tie.Need-returns
 returns c =
