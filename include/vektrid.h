@@ -97,7 +97,7 @@ uint32_t vektrid_query(const uint32_t *words, size_t count, uint32_t shift_x, ui
 /* A word divided by 2^32, exactly. */
 double vektrid_double(uint32_t word);
 
-/* The largest single not above a word divided by 2^32. */
+/* The largest single not above a word divided by 2^32. docs/SINGLES.md lays its bits out, by cases. */
 float vektrid_single(uint32_t word);
 
 /* The point of an index as two singles, for any pair: 0 or 1. */

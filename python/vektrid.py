@@ -650,7 +650,8 @@ def double(word):
 
 
 def single(word):
-    """The largest IEEE 754 single not above word / 2^32, as a float. It lies in the word's own strip for up to 24 bits. Nothing is refused."""
+    """The largest IEEE 754 single not above word / 2^32, as a float. It lies in the word's own strip for up to 24 bits. Nothing is refused.
+    docs/SINGLES.md lays its bits out, by cases."""
     return _library.vektrid_single(_whole('word', word))
 
 

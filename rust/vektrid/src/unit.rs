@@ -26,6 +26,7 @@ pub fn double(word: u32) -> f64 {
 }
 
 /// The largest single not above a word divided by 2^32, so that it never reaches the next strip.
+/// `docs/SINGLES.md` of the repository lays its bits out, by cases.
 ///
 /// ```
 /// assert_eq!(vektrid::single(1).to_bits(), 0x2F80_0000);
