@@ -42,8 +42,8 @@ pub fn single(word: u32) -> f32
 // The weight of the exponent field, which stands above the 23 stored digits of a single.
 const EXPONENT_WEIGHT: u32 = 8388608;
 
-// The bits of that single: sign 0, the exponent field, and of the word's digits the 23 after its leading one, which a single does not store.
-// The digits after those are cut off. Word 0 has no leading one, and all its bits are 0.
+// The bits of that single: sign 0, the exponent field, and the 23 digits of the word after its leading one. A single does not store the
+// leading one, and digits after those 23 are cut off. Word 0 has no leading one, and all its bits are 0.
 fn single_bits(word: u32) -> u32
     ensures { λ r. ⌜ r ≡ single-bits word ⌝ }
 {
