@@ -63,9 +63,10 @@ pub record LaidOut (x : Float) (b e t : ℕ) : Type 0 where
   pub bits : b ≡ e * 2 ^ 23 + t
   pub stored : t < 2 ^ 23
   pub below-bias : e < 127
-  -- which come to
+  -- so that the highest digits of b are
   pub sign : b / 2 ^ 31 ≡ 0
   pub field : b / 2 ^ 23 ≡ e
+  -- and what they mean
   pub reading : x ≡ ofFields binary32 false e t
   pub value : 0 < e → HasValue x false (2 ^ 23 + t) (2 ^ (23 + (127 - e)))
 
