@@ -86,7 +86,7 @@ single-value {L} wide {v} below = ⊎-elim none some (eq-zero-or-pos v)
         let least = wide .at-least in
         let z = leadingZeros L v in
         let t = leading-digits L v in
-        let field = pattern (125 - z) t (omega arith) (digits-ge L v positive below least) (digits-lt L v positive below least) in
+        let field = pattern (125 - z) t (omega arith) (digits-ge L v positive below least) (digits-lt L v below least) in
         subst (λ (x : Float). HasValue x false (kept L v) (2 ^ L)) (sym (ap (ofBits binary32) (positive-bits L v positive) ∙ field))
         (rescale (odd 24 false t (125 - z) 149) false (t * 2 ^ (125 - z)) (2 ^ 149) (kept L v) (2 ^ L) (pow-pos 149)
         (scaled L v z wide (zeros-lt L v positive below)) (odd-sign 24 false t (125 - z) 149))

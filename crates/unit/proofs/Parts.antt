@@ -1,11 +1,11 @@
--- The bits of every word's single by exponent field and stored digits, what they mean, and the words of each case. Assumes nothing.
+-- The bits of every word's single by exponent field and stored digits, and what they mean. Assumes nothing.
 use mathlib.Core.Path.{_≡_, refl, sym, ap, _∙_, subst}
-use mathlib.Core.Logic.{⊎-elim, _↔_}
+use mathlib.Core.Logic.{⊎-elim}
 use mathlib.Core.Bool.{false}
 use Prim.Native.Nat.{ℕ, zero, suc, _+_, _-_, _*_, _/_, _%_, _^_, _≤_, _<_}
 use native.Mathlib.Nat.{eq-zero-or-pos, zero-mul, zero-div, mul-assoc, mod-lt}
 use native.Mathlib.Omega.{arith}
-use lib.Count.{leadingZeros, leading-le, leading-length, leading-unique}
+use lib.Count.{leadingZeros, leading-le}
 use lib.Pow.{pow-pos}
 use lib.Ieee.{Float, binary32, odd, ofFields, ofBits}
 use lib.Ieee.Exact.{HasValue, odd-sign}
@@ -27,7 +27,7 @@ positive-parts {L} {v} wide positive below =
     let most = wide .at-most in
     let few = zeros-lt L v positive below in
     let lo = digits-ge L v positive below (wide .at-least) in
-    let hi = digits-lt L v positive below (wide .at-least) in
+    let hi = digits-lt L v below (wide .at-least) in
     positive-bits L v positive ∙ carried (leadingZeros L v) (leading-digits L v) (omega arith) lo hi
   where
     carried : (z t : ℕ) → z ≤ 125 → 2 ^ 23 ≤ t → t < 2 ^ 24 → (125 - z) * 2 ^ 23 + t ≡ (126 - z) * 2 ^ 23 + t % 2 ^ 23
@@ -67,11 +67,8 @@ value (suc k) t some small =
     let all : k + (23 + (127 - suc k)) ≡ 149 = omega arith in
     subst (λ (y : Float). HasValue y false (2 ^ 23 + t) (2 ^ (23 + (127 - suc k)))) (sym (normal k t (omega arith)))
     (rescale x false ((2 ^ 23 + t) * 2 ^ k) (2 ^ 149) (2 ^ 23 + t) (2 ^ (23 + (127 - suc k))) (pow-pos 149)
-    (scaled (2 ^ 23 + t) (2 ^ k) (2 ^ (23 + (127 - suc k))) (2 ^ 149) (powers k (23 + (127 - suc k)) 149 all))
+    (mul-assoc (2 ^ 23 + t) (2 ^ k) (2 ^ (23 + (127 - suc k))) ∙ ap (λ (n : ℕ). (2 ^ 23 + t) * n) (powers k (23 + (127 - suc k)) 149 all))
     (odd-sign 24 false (2 ^ 23 + t) k 149))
-  where
-    scaled : (m a b c : ℕ) → a * b ≡ c → m * a * b ≡ m * c
-    scaled m a b c e = mul-assoc m a b ∙ ap (λ (x : ℕ). m * x) e
 
 pub laid-out : (w : ℕ) → w < 2 ^ 32 → LaidOut (single w) (single-bits w) (exponent-field (leadingZeros 32 w)) (stored-digits width (numerator w))
 laid-out w below =
@@ -96,22 +93,3 @@ laid-out w below =
 
     above : (e t : ℕ) → t < 2 ^ 23 → (e * 2 ^ 23 + t) / 2 ^ 23 ≡ e
     above e t short = omega arith
-
--- the words with z leading zeros
-pub words-of : (z w : ℕ) → z ≤ 32 → w < 2 ^ 32 → (leadingZeros 32 w ≡ z) ↔ ((2 ^ (32 - z) / 2 ≤ w) × (w < 2 ^ (32 - z)))
-words-of z w small below = (ends, λ within. zeros (within .0) (within .1))
-  where
-    ends : leadingZeros 32 w ≡ z → (2 ^ (32 - z) / 2 ≤ w) × (w < 2 ^ (32 - z))
-    ends e =
-        let length = leading-length 32 w below in
-        let m : length .0 ≡ 32 - z = omega (arith, e, length .1) in
-        subst (λ (k : ℕ). (2 ^ k / 2 ≤ w) × (w < 2 ^ k)) m (halved (2 ^ (length .0)) (length .3), length .2)
-      where
-        halved : (n : ℕ) → n ≤ 2 * w + 1 → n / 2 ≤ w
-        halved n h = omega arith
-
-    zeros : 2 ^ (32 - z) / 2 ≤ w → w < 2 ^ (32 - z) → leadingZeros 32 w ≡ z
-    zeros least most = sym (leading-unique 32 w z (32 - z) (omega arith) most (doubled (2 ^ (32 - z)) least))
-      where
-        doubled : (n : ℕ) → n / 2 ≤ w → n ≤ 2 * w + 1
-        doubled n h = omega arith

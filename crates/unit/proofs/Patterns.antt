@@ -27,7 +27,7 @@ bits-lt {L} {v} least below = ⊎-elim none some (eq-zero-or-pos v)
 
     some : 0 < v → lower-bits L v < 127 * 2 ^ 23
     some positive =
-        let digits = digits-lt L v positive below least in
+        let digits = digits-lt L v below least in
         subst (λ (n : ℕ). n < 127 * 2 ^ 23) (sym (positive-bits L v positive)) (omega arith)
 
 pub not-nan : {L v : ℕ} → 24 ≤ L → v < 2 ^ L → T (not (nanBits binary32 (lower-bits L v)))

@@ -11,12 +11,13 @@ use Rattle.unit.specs.Quotient.{nearest-double, lower-single}
 use Rattle.unit.specs.Word.{numerator, width, double, single}
 use Rattle.unit.specs.Singles.{visit-singles}
 use Rattle.unit.specs.Theorem.{WideEnough, InStrip, Rounded, Theorems}
+use Rattle.unit.proofs.Leading.{zeros-iff}
 use Rattle.unit.proofs.Patterns.{bits-written}
 use Rattle.unit.proofs.Doubles.{double-value}
 use Rattle.unit.proofs.Kept as K
 use Rattle.unit.proofs.Largest.{single-largest}
 use Rattle.unit.proofs.Table.{entries, field-rule, field-at-32}
-use Rattle.unit.proofs.Parts.{words-of, laid-out}
+use Rattle.unit.proofs.Parts.{laid-out}
 use Rattle.unit.proofs.Numerator.{wide-enough, numerator-lt, numerator-top}
 
 quotients : {L : ℕ} → WideEnough L → {v : ℕ} → v < 2 ^ L → Rounded L v (nearest-double L v) (lower-single L v)
@@ -48,7 +49,7 @@ theorems = record {
   entries = entries;
   field-rule = field-rule;
   field-at-32 = field-at-32;
-  words-of = words-of;
+  words-of = zeros-iff 32;
   laid-out = laid-out;
   zero-bits = bits-written (wide-enough .at-least) (numerator-lt 0 (lit< tt));
   zero = zero;

@@ -13,6 +13,7 @@ exponent-fields =
     ∷ 102 ∷ 101 ∷ 100 ∷ 99 ∷ 98 ∷ 97 ∷ 96 ∷ 95  -- 24 to 31
     ∷ 0 ∷ []  -- 32
 
+-- that entry
 abbrev pub exponent-field : ℕ → ℕ
 exponent-field z = getD exponent-fields z 0
 

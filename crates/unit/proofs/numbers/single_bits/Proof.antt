@@ -1,10 +1,9 @@
 -- `single_bits`: no digit is shifted out, so the stored digits are those of the definition; field and digits together are the bits.
-use mathlib.Core.Path.{sym, ap, _∙_}
-use Prim.Native.Nat.{ℕ, _+_, _*_, _/_, _%_, _^_, _<_}
-use native.Mathlib.Nat.{mod-eq-of-lt}
+use Prim.Native.Nat.{_^_}
+use native.Mathlib.Nat.{lt-of-lt-of-le, mod-eq-of-lt}
 use native.Mathlib.Omega.{arith}
-use lib.Count.{leadingZeros, leading-le}
-use Rattle.unit.specs.Parts.{exponent-field}
+use lib.Dec.{lit≤}
+use lib.Count.{leading-le}
 use Rattle.unit.proofs.Leading.{moved-lt}
 use Rattle.unit.proofs.Table.{field-le}
 use Rattle.unit.proofs.Parts.{together}
@@ -33,10 +32,7 @@ returns : tie.Need-returns
 returns c =
     let w = c .before .args .word in
     let fits = c .before .fits .word .fits in
-    let z = leadingZeros 32 w in
-    let wide : w * 2 ^ z < 18446744073709551616 = let moved = moved-lt 32 w fits in omega arith in
-    ap (λ (e : ℕ). e * 8388608 + w * 2 ^ z % 18446744073709551616 / 256 % 8388608) (c .exponent-field .ensures)
-    ∙ ap (λ (n : ℕ). exponent-field z * 8388608 + n / 256 % 8388608) (mod-eq-of-lt wide) ∙ sym (together w fits)
+    simp (c .exponent-field .ensures, mod-eq-of-lt {m = 2 ^ 64} (lt-of-lt-of-le (moved-lt 32 w fits) (lit≤ tt)), together w fits)
 
 pub single-bits-spec : {M : Type 1} → statement M
 single-bits-spec = tie.close (tie.spec cast-moved shl-moved cast-stored exponent-field-requires mul-result add-result returns)
