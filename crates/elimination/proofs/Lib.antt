@@ -1,4 +1,5 @@
 pub mod Reduction
-pub mod Clearing
+pub mod Entries
 pub mod Refinement
-pub mod Determinant
+pub mod Outcomes
+pub mod Shapes

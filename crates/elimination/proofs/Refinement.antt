@@ -11,33 +11,15 @@ use lib.ListN.{length, getD, set, replicate, length-set}
 use lib.Seq.{getD-set-same, getD-set-other}
 use Rattle.ranges.proofs.Order.{lt-or-ge}
 use Rattle.digits.specs.Digits.{plus, minus}
-use Rattle.digits.proofs.Arithmetic.{zero-plus}
-use Rattle.digits.proofs.Two.{one-lt-two}
-use Rattle.linear.proofs.Prime.{two}
-use Rattle.net.specs.Scrambling.{plain}
-use Rattle.net.specs.Shape.{Shape}
-use Rattle.net.specs.Sequence.{Least}
-use Rattle.net.specs.Elimination.{Additive, Choice, BasisEntry, serial, interval, reduce, solve, new-entry}
-use Rattle.net.specs.Elimination.{Eliminated, in-kernel, basis, eliminate, eliminate-shape}
-use Rattle.net.specs.Answers.{Decided}
-use Rattle.net.proofs.Interval.{interval-pow, interval-additive}
-use Rattle.net.proofs.Elimination.{eliminate-ends, eliminate-stops, eliminate-goes-on}
-use Rattle.net.proofs.Basis.{eliminated}
+use Rattle.net.specs.Elimination.{Additive, Choice, BasisEntry, reduce, solve, new-entry, in-kernel, eliminate}
+use Rattle.net.proofs.Elimination.{eliminate-stops, eliminate-goes-on}
 use Rattle.net.proofs.Two.{trailing-zeros}
-use Rattle.word.specs.Matrices.{pair}
-use Rattle.elimination.specs.Basis.{entries, Images, Sweeps, added, Clears, Eliminates}
+use Rattle.elimination.specs.Basis.{entries, Images, Sweeps, added, Clears}
 use Rattle.elimination.proofs.Reduction.{sweep-none, sweep-more, reduced, imaged}
 
 -- the lowest bit of a word
 abbrev pub choice : Choice 2 32
 choice = trailing-zeros
-
--- ---- the interval of a column's own index, as the code joins it
-
-pub interval-at : {x y : List ℕ} {m a : ℕ} → Shape (pair x y) m a → (c : ℕ)
-    → interval (plain (pair x y)) m a (2 ^ c) ≡ getD x c 0 / 2 ^ (32 - a) * 2 ^ (m - a) + getD y c 0 / 2 ^ (32 - (m - a))
-unfolding serial
-interval-at shape c = interval-pow shape c
 
 -- ---- a new entry leaves the old ones alone
 
@@ -147,43 +129,35 @@ module _ {L : ℕ → ℕ} (A : Additive 2 L) {m : ℕ} {words indexes : List �
           (ap (trailingZeros 32) (here-word ∙ sym image-is)))
           (entries-set words indexes c word index c (le-refl c))
 
--- ---- the code's arrays: each column to come, and the word asked for, is swept by the entries so far
+-- ---- the code's arrays: each column to come, and each of n words asked for, is swept by the entries so far
 
-pub record Pending (L : ℕ → ℕ) (m asked c : ℕ) (rest moved : List ℕ) : Type 0 where
+pub record Pending (L : ℕ → ℕ) (m n : ℕ) (asked : ℕ → ℕ) (c : ℕ) (rest moved asked-rest found : List ℕ) : Type 0 where
   pub words : List ℕ
   pub indexes : List ℕ
   pub going : Going L m words indexes c
   pub columns : (d : ℕ) → c ≤ d → d < m → Sweeps words indexes c (L (2 ^ d)) (2 ^ d) (getD rest d 0) (getD moved d 0)
-  pub asked-for : Sweeps words indexes c asked 0 (getD rest m 0) (getD moved m 0)
+  pub asked-for : (t : ℕ) → t < n → Sweeps words indexes c (asked t) 0 (getD asked-rest t 0) (getD found t 0)
 
--- the arrays as the loop begins: the columns, and then the word asked for
-pub record Begun (L : ℕ → ℕ) (m asked : ℕ) (rest moved : List ℕ) : Type 0 where
+-- the arrays as the loop begins: the columns beside the unit words, and the words asked for beside 0
+pub record Begun (L : ℕ → ℕ) (m n : ℕ) (asked : ℕ → ℕ) (rest moved asked-rest found : List ℕ) : Type 0 where
   pub columns : (d : ℕ) → d < m → (getD rest d 0 ≡ L (2 ^ d)) × (getD moved d 0 ≡ 2 ^ d)
-  pub asked-for : getD rest m 0 ≡ asked
-  pub nothing : getD moved m 0 ≡ 0
+  pub asked-for : (t : ℕ) → t < n → (getD asked-rest t 0 ≡ asked t) × (getD found t 0 ≡ 0)
 
-pub begun : {L : ℕ → ℕ} {m : ℕ} (asked : ℕ) (rest moved : List ℕ) → ((d : ℕ) → d < m → (getD rest d 0 ≡ L (2 ^ d)) × (getD moved d 0 ≡ 2 ^ d))
-    → m < length rest → m < length moved → Begun L m asked (set rest m asked) (set moved m 0)
-begun {m = m} asked rest moved are h k = record {
-  columns = λ d l. let other : d ≢ m = omega arith in
-      (getD-set-other rest m d asked 0 other ∙ are d l .0, getD-set-other moved m d 0 0 other ∙ are d l .1);
-  asked-for = getD-set-same rest m asked 0 h;
-  nothing = getD-set-same moved m 0 0 k;
-}
-
-pub pending-none : {L : ℕ → ℕ} {m asked : ℕ} {rest moved : List ℕ} → Begun L m asked rest moved → Pending L m asked 0 rest moved
-pending-none {L} {m} {asked} {rest} {moved} b = record {
+pub pending-none : {L : ℕ → ℕ} {m n : ℕ} {asked : ℕ → ℕ} {rest moved asked-rest found : List ℕ}
+    → Begun L m n asked rest moved asked-rest found → Pending L m n asked 0 rest moved asked-rest found
+pending-none {L} {m} {n} {asked} {rest} {moved} {asked-rest} {found} b = record {
   words = replicate 32 0;
   indexes = replicate 32 0;
   going = going-none L m (replicate 32 0) (replicate 32 0) refl refl;
   columns = λ d low h. start (L (2 ^ d)) (2 ^ d) (getD rest d 0) (getD moved d 0) (b .columns d h .0) (b .columns d h .1);
-  asked-for = start asked 0 (getD rest m 0) (getD moved m 0) (b .asked-for) (b .nothing);
+  asked-for = λ t h. start (asked t) 0 (getD asked-rest t 0) (getD found t 0) (b .asked-for t h .0) (b .asked-for t h .1);
 }
   where
     start : (v k word index : ℕ) → word ≡ v → index ≡ k → Sweeps (replicate 32 0) (replicate 32 0) 0 v k word index
     start v k word index e f = rw e (rw f (sweep-none (replicate 32 0) (replicate 32 0) v k))
 
-module _ {L : ℕ → ℕ} (A : Additive 2 L) {m asked c : ℕ} {rest moved : List ℕ} (now : Pending L m asked c rest moved) (inside : c < m) where
+module _ {L : ℕ → ℕ} (A : Additive 2 L) {m n : ℕ} {asked : ℕ → ℕ} {c : ℕ} {rest moved asked-rest found : List ℕ}
+    (now : Pending L m n asked c rest moved asked-rest found) (inside : c < m) where
   here : Sweeps (now .words) (now .indexes) c (L (2 ^ c)) (2 ^ c) (getD rest c 0) (getD moved c 0)
   here = now .columns c (le-refl c) inside
 
@@ -203,46 +177,41 @@ module _ {L : ℕ → ℕ} (A : Additive 2 L) {m asked c : ℕ} {rest moved : Li
       (subst (λ (z : ℕ). Sweeps words indexes (c + 1) v k (added (getD words c 0) x (getD words c 0) x) (added (getD words c 0) x z y)) i
       (sweep-more words indexes v k c x y (sweeps-set (now .words) (now .indexes) c (getD rest c 0) (getD moved c 0) v k x y old)))))
 
-  pub pending-more : (rest′ moved′ : List ℕ) → getD rest c 0 ≢ 0 → Clears (getD rest c 0) (getD moved c 0) (c + 1) (m + 1) rest moved rest′ moved′
-      → c < 32 → Pending L m asked (c + 1) rest′ moved′
-  pending-more rest′ moved′ ne clears low = record {
-    words = set (now .words) c (getD rest c 0);
-    indexes = set (now .indexes) c (getD moved c 0);
-    going = going-more A (now .going) inside (getD rest c 0) (getD moved c 0) here ne low;
-    columns = λ d h l. further (L (2 ^ d)) (2 ^ d) (getD rest d 0) (getD moved d 0) (getD rest′ d 0) (getD moved′ d 0)
-        (now .columns d (omega arith) l) (clears .word d (omega arith) (omega arith)) (clears .index d (omega arith) (omega arith)) low;
-    asked-for = further asked 0 (getD rest m 0) (getD moved m 0) (getD rest′ m 0) (getD moved′ m 0)
-        (now .asked-for) (clears .word m (omega arith) (omega arith)) (clears .index m (omega arith) (omega arith)) low;
-  }
-
--- ---- what the code hands back
-
-module _ {x y : List ℕ} {m a : ℕ} (shape : Shape (pair x y) m a) where
-  abbrev L : ℕ → ℕ
-  L = interval (plain (pair x y)) m a
-
-  meant : (o : Eliminated) → eliminate 2 L choice m 0 [] ≡ o → Decided (pair x y) m a o
-  unfolding eliminate-shape
-  meant o e = subst (Decided (pair x y) m a) e (eliminated shape two choice)
-
-  pub eliminates-kernel : (asked index j : ℕ) → eliminate 2 L choice m 0 [] ≡ in-kernel j → Eliminates (pair x y) m a asked j index
-  eliminates-kernel asked index j e =
-      let least : Least (plain (pair x y)) m a j = meant (in-kernel j) e .least in
-      let positive = least .positive in
-      record { least = λ n. least; found = λ z. absurd (omega arith) }
-
-  pub eliminates-basis : (asked c : ℕ) (rest moved : List ℕ) → c ≡ m → Pending L m asked c rest moved
-      → Eliminates (pair x y) m a asked 0 (getD moved m 0)
-  eliminates-basis asked c rest moved e now =
-      let done = rw e at now in
-      let fs = entries (done .words) (done .indexes) m in
-      let none : m - m ≡ 0 = omega arith in
-      let whole = done .going .left ∙ ap (λ (n : ℕ). eliminate 2 L choice n m fs) none in
+  -- a turn of the loop: the columns to come and the words asked for are cleared by the column at hand
+  pub pending-more : (rest′ moved′ asked-rest′ found′ : List ℕ) (by along : ℕ) → by ≡ getD rest c 0 → along ≡ getD moved c 0 → by ≢ 0
+      → Clears by along (c + 1) m rest moved rest′ moved′ → Clears by along 0 n asked-rest found asked-rest′ found′
+      → c < 32 → Pending L m n asked (c + 1) rest′ moved′ asked-rest′ found′
+  pending-more rest′ moved′ asked-rest′ found′ by along e f ne clears asked-clears low =
+      let columns-cleared = rw f at (rw e at clears) in
+      let asked-cleared = rw f at (rw e at asked-clears) in
       record {
-        least = λ n. absurd (n refl);
-        found = λ z. (
-          fs,
-          meant (basis fs) (whole ∙ eliminate-ends L choice m fs),
-          done .asked-for L (interval-additive shape) (done .going .images) .moved ∙ zero-plus one-lt-two (solve 2 L fs asked),
-        );
+        words = set (now .words) c (getD rest c 0);
+        indexes = set (now .indexes) c (getD moved c 0);
+        going = going-more A (now .going) inside (getD rest c 0) (getD moved c 0) here (λ z. ne (e ∙ z)) low;
+        columns = λ d h l. further (L (2 ^ d)) (2 ^ d) (getD rest d 0) (getD moved d 0) (getD rest′ d 0) (getD moved′ d 0)
+            (now .columns d (omega arith) l) (columns-cleared .word d (omega arith) l) (columns-cleared .index d (omega arith) l) low;
+        asked-for = λ t h. further (asked t) 0 (getD asked-rest t 0) (getD found t 0) (getD asked-rest′ t 0) (getD found′ t 0)
+            (now .asked-for t h) (asked-cleared .word t (omega arith) h) (asked-cleared .index t (omega arith) h) low;
       }
+
+-- ---- one word asked for, as lists of one
+
+pub begun-one : {L : ℕ → ℕ} {m : ℕ} (asked : ℕ) {rest moved : List ℕ}
+    → ((d : ℕ) → d < m → (getD rest d 0 ≡ L (2 ^ d)) × (getD moved d 0 ≡ 2 ^ d)) → Begun L m 1 (λ t. asked) rest moved (asked ∷ []) (0 ∷ [])
+begun-one asked are = record { columns = are; asked-for = λ t h. only t h }
+  where
+    only : (t : ℕ) → t < 1 → (getD (asked ∷ []) t 0 ≡ asked) × (getD {A = ℕ} (0 ∷ []) t 0 ≡ 0)
+    only zero h = (refl, refl)
+    only (suc t) h = absurd (omega arith)
+
+pub clears-one : {by along word index word′ index′ : ℕ} → word′ ≡ added by word by word → index′ ≡ added by word along index
+    → Clears by along 0 1 (word ∷ []) (index ∷ []) (word′ ∷ []) (index′ ∷ [])
+clears-one {by} {along} {word} {index} {word′} {index′} e f = record { word = λ d low h. at-word d h; index = λ d low h. at-index d h }
+  where
+    at-word : (d : ℕ) → d < 1 → getD (word′ ∷ []) d 0 ≡ added by (getD (word ∷ []) d 0) by (getD (word ∷ []) d 0)
+    at-word zero h = e
+    at-word (suc d) h = absurd (omega arith)
+
+    at-index : (d : ℕ) → d < 1 → getD (index′ ∷ []) d 0 ≡ added by (getD (word ∷ []) d 0) along (getD (index ∷ []) d 0)
+    at-index zero h = f
+    at-index (suc d) h = absurd (omega arith)

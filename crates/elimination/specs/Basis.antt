@@ -1,18 +1,15 @@
 -- What the functions of the elimination promise one another, over arrays of words beside their indexes, and the notions by which the
--- proofs relate them to the model. Other crates cite only `Eliminates` and `EliminatesAny`.
+-- proofs relate them to the model. Other crates cite none of this.
 use mathlib.Core.Path.{_≡_}
-use mathlib.Core.Logic.{_≢_, _⊎_}
+use mathlib.Core.Logic.{_⊎_}
 use mathlib.Core.List.{List, [], _∷_}
 use Prim.Native.Nat.{ℕ, zero, suc, _*_, _/_, _%_, _^_, _≤_, _<_}
 use lib.Bits.{bitXor}
 use lib.Count.{trailingZeros}
 use lib.ListN.{length, getD}
 use Rattle.digits.specs.Digits.{plus, minus}
-use Rattle.net.specs.Generators.{Generators}
-use Rattle.net.specs.Sequence.{Least}
-use Rattle.net.specs.Scrambling.{plain}
-use Rattle.net.specs.Elimination.{Additive, BasisEntry, interval, solve}
-use Rattle.net.specs.Answers.{Solved}
+use Rattle.net.specs.Elimination.{Additive, BasisEntry, solve}
+use Rattle.word.specs.Index.{index-bits}
 
 -- the first n words and indexes as entries of a basis, the newest first; the pivot of a word is its lowest set bit
 unfoldable pub entries : List ℕ → List ℕ → ℕ → List BasisEntry
@@ -36,19 +33,17 @@ Sweeps words indexes n v k word index = (L : ℕ → ℕ) → Additive 2 L → I
 
 -- ---- the arrays of the code
 
--- the words of a part are cleared together; the arrays have five parts
+-- the entries of a part are cleared together
 abbrev pub part : ℕ
-part = 8
-
-abbrev pub room : ℕ
-room = 40
+part = 4
 
 abbrev pub Long : List ℕ → List ℕ → Type 0
-Long words indexes = (length words ≡ room) × (length indexes ≡ room)
+Long words indexes = (length words ≡ index-bits) × (length indexes ≡ index-bits)
 
--- the first n words are the columns of the shape (m, a): word c is the interval of the index 2 ^ c, which stands beside it
-abbrev pub ShapeColumns : Generators → ℕ → ℕ → ℕ → List ℕ → List ℕ → Type 0
-ShapeColumns G m a n words indexes = (c : ℕ) → c < n → (getD words c 0 ≡ interval (plain G) m a (2 ^ c)) × (getD indexes c 0 ≡ 2 ^ c)
+-- word t of the list has bit t alone
+pub record Units (words : List ℕ) : Type 0 where
+  pub long : length words ≡ index-bits
+  pub each : (t : ℕ) → t < index-bits → getD words t 0 ≡ 2 ^ t
 
 -- y with x added if the word w has the lowest set bit of the word `by`; with x = `by` and y = w this clears that bit of w
 abbrev pub added : (by w x y : ℕ) → ℕ
@@ -62,15 +57,3 @@ pub record Clears (by along from to : ℕ) (words indexes words′ indexes′ : 
 -- and all other elements of a list are as they were
 abbrev pub Stays : (from to : ℕ) → List ℕ → List ℕ → Type 0
 Stays from to old new = (d : ℕ) → (d < from) ⊎ (to ≤ d) → getD new d 0 ≡ getD old d 0
-
--- ---- what an elimination of the shape (m, a) hands back
-
--- `kernel` is its j, or 0, and then there is a basis that answers every query, with the index for the cell that is asked for
-pub record Eliminates (G : Generators) (m a asked kernel index : ℕ) : Type 0 where
-  pub least : kernel ≢ 0 → Least (plain G) m a kernel
-  pub found : kernel ≡ 0 → (fs : List BasisEntry) × Solved G m a fs × (index ≡ solve 2 (interval (plain G) m a) fs asked)
-
--- the same for all m and a: what is no shape has no kernel and the index 0
-pub record EliminatesAny (G : Generators) (m a asked kernel index : ℕ) : Type 0 where
-  pub shape : a ≤ m → m ≤ G .R → Eliminates G m a asked kernel index
-  pub other : (m < a) ⊎ (G .R < m) → (kernel ≡ 0) × (index ≡ 0)

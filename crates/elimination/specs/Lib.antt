@@ -1,1 +1,2 @@
+pub mod Elimination
 pub mod Basis

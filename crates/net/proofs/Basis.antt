@@ -1,16 +1,18 @@
--- Elimination for a shape gives 01's j, or a basis that answers every query. Assumes nothing.
+-- Elimination for a shape gives 01's j, or a basis that answers every query; and how a plain index answers one. Assumes nothing.
 use mathlib.Core.Path.{_≡_, sym, ap, ap₂, _∙_, subst}
 use mathlib.Core.List.{List}
-use Prim.Native.Nat.{ℕ, _-_, _^_, _<_}
+use Prim.Native.Nat.{ℕ, _+_, _-_, _*_, _^_, _<_}
 use native.Mathlib.Nat.{lt-of-lt-of-le, pow-le-pow-right}
 use native.Mathlib.Omega.{arith}
 use Rattle.digits.proofs.Digit.{pow-pos}
+use Rattle.ranges.specs.Unique.{Only}
 use Rattle.linear.specs.Prime.{Prime}
 use Rattle.net.specs.Generators.{Generators}
-use Rattle.net.specs.Sequence.{Sequence, Finds, Apart, Least}
+use Rattle.net.specs.Sequence.{Sequence, VisitIn, Finds, Apart, Least}
 use Rattle.net.specs.Scrambling.{plain, shifted}
 use Rattle.net.specs.Shape.{Shape}
-use Rattle.net.specs.Elimination.{serial, interval, Choice, BasisEntry, solve, Eliminated, in-kernel, basis, eliminate-shape, basis-index}
+use Rattle.net.specs.Elimination.{serial, interval, plain-interval, Choice, BasisEntry, solve, Eliminated, in-kernel, basis}
+use Rattle.net.specs.Elimination.{eliminate-shape, basis-index}
 use Rattle.net.specs.Answers.{Solved, Decided}
 use Rattle.net.proofs.Scrambling.{unshifted}
 use Rattle.net.proofs.Interval.{interval-additive, interval-lt, interval-of-share, share-of-interval, interval-zero}
@@ -19,6 +21,21 @@ use Rattle.net.proofs.Net.{stratified}
 use Rattle.net.proofs.Least.{crowded-of-least, zero-of-crowded}
 use Rattle.net.proofs.Elimination.{Sound, eliminate-sound}
 
+module _ {G : Generators} {m a : ℕ} (shape : Shape G m a) where
+  open Generators G using (b, R)
+
+  -- The index of a block in an interval, by the plain index: where no two plain visits share an interval, some plain index has the interval
+  -- that answers for it, so whatever is that index gives the block's.
+  pub index-only : Apart (plain G) m a → (s t : ℕ) → s < b ^ R → t < b ^ R → (k c r : ℕ) → c < b ^ a → r < b ^ (m - a) → (index : ℕ)
+      → ((i : ℕ) → i < b ^ m → interval (plain G) m a i ≡ plain-interval (shifted G s t) m a k c r → index ≡ i)
+      → Only (VisitIn (shifted G s t) m a k c r) (k * b ^ m + index)
+  unfolding interval
+  index-only apart s t hs ht k c r hc hr index is =
+      let (p, related) = stratified shape apart .relation s t hs ht k c r hc hr in
+      let there = related .plain-visit .holds in
+      let below : p < b ^ m = let h = there .in-block .below in omega arith in
+      rw (is p below (ap₂ (serial b (m - a)) (there .in-column) (there .in-row))) (related .block-visit)
+
 module _ {G : Generators} {m a : ℕ} (shape : Shape G m a) (prime : Prime (G .b)) where
   open Generators G using (b, R)
 
@@ -26,15 +43,11 @@ module _ {G : Generators} {m a : ℕ} (shape : Shape G m a) (prime : Prime (G .b
     apart : Apart (plain G) m a
     apart i j hi hj s = sym (back i hi) ∙ ap (solve b (interval (plain G) m a) fs) (interval-of-share shape i j s) ∙ back j hj
 
-    -- the relation names the plain index p; its interval is the one that the basis is asked for
     answers : (s t : ℕ) → s < b ^ R → t < b ^ R → (k : ℕ) → Finds (shifted G s t) m a k (basis-index G (shifted G s t) fs m a k)
-    unfolding basis-index interval
+    unfolding basis-index
     answers s t hs ht k c r hc hr =
-        let (p, related) = stratified shape apart .relation s t hs ht k c r hc hr in
-        let there = related .plain-visit .holds in
-        let below : p < b ^ m = let h = there .in-block .below in omega arith in
-        let same = ap (solve b (interval (plain G) m a) fs) (sym (ap₂ (serial b (m - a)) (there .in-column) (there .in-row))) ∙ back p below in
-        rw same (related .block-visit)
+        index-only shape apart s t hs ht k c r hc hr (solve b (interval (plain G) m a) fs (plain-interval (shifted G s t) m a k c r))
+        (λ i h e. ap (solve b (interval (plain G) m a) fs) (sym e) ∙ back i h)
 
     solved : Solved G m a fs
     solved = record {

@@ -1,5 +1,6 @@
 // The check of generator matrices: the shapes in their order, up to the first that is no net.
 use elimination::eliminate;
+use elimination::shape_columns;
 use plan::Plan;
 use refusal::Judgement;
 use refusal::Refusal;
@@ -20,7 +21,7 @@ fn scan(plan: Plan, level: u32, from: u32, at: u32) -> Judgement
     let mut m = from;
     let mut a = at;
     while m <= level {
-        let e = eliminate(plan, m, a, 0);
+        let e = eliminate(shape_columns(plan, m, a), m, 0);
         let kernel = e.kernel;
         if kernel != 0 {
             return Judgement::Refused(Refusal::NotNet { m, a, j: kernel });

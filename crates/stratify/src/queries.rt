@@ -1,5 +1,6 @@
 // The query of a cell: the one index of a block that lies in it.
 use elimination::eliminate;
+use elimination::shape_columns;
 use plan::Plan;
 use plan::Point;
 use plan::Shift;
@@ -61,7 +62,7 @@ fn find(plan: Plan, shift: Shift, m: u32, a: u32, column: u32, row: u32, block: 
     ensures { λ r. ⌜ of-located r ≡ of-location m a (locate (generators plan) (scrambling shift) m a block column row) ⌝ }
 {
     let cell = plain_cell(plan, shift, m, a, column, row, block);
-    let e = eliminate(plan, m, a, cell);
+    let e = eliminate(shape_columns(plan, m, a), m, cell);
     let kernel = e.kernel;
     if kernel != 0 {
         return Located::Refused(Refusal::NotNet { m, a, j: kernel });

@@ -1,5 +1,5 @@
--- `put_columns`: after c turns the first c columns stand beside their indexes.
-use mathlib.Core.Path.{_≡_, sym, ap₂, _∙_}
+-- `put_columns`: after c turns the first c columns are there.
+use mathlib.Core.Path.{_≡_, refl, sym, ap₂, _∙_}
 use Prim.Native.Nat.{ℕ, _+_, _-_, _*_, _^_, _≤_, _<_}
 use native.Mathlib.Omega.{arith}
 use borrow.Author.Needs.{needs}
@@ -8,31 +8,30 @@ use Rattle.net.specs.Scrambling.{plain}
 use Rattle.net.specs.Elimination.{interval}
 use Rattle.net.proofs.Interval.{interval-lt}
 use Rattle.word.specs.Matrices.{pair}
-use Rattle.word.proofs.Turn.{one-shifted}
 use Rattle.word.proofs.Joined.{joined-whole}
 use Rattle.plan.specs.Pair.{generators}
-use Rattle.elimination.proofs.Refinement.{interval-at}
-use Rattle.elimination.proofs.Clearing.{Putting, putting-none, putting-more}
+use Rattle.elimination.proofs.Shapes.{interval-at, columns-of-shape}
+use Rattle.elimination.proofs.Entries.{Putting, putting-none, putting-more}
 use Rattle.elimination.proofs.columns.put_columns.Statement.{statement}
 use Rattle.elimination.proofs.columns.put_columns.Tie as tie
 
 abbrev Inv-loop : tie.InvT-loop
-Inv-loop m a words₀ indexes₀ x y n c₀ words indexes c = (c ≤ m) × Putting (interval (plain (pair x y)) m a) c words indexes
+Inv-loop m a x y n columns₀ c₀ columns c = (c ≤ m) × Putting (λ t. interval (plain (pair x y)) m a (2 ^ t)) c columns
 
 abbrev μ-loop : tie.MeasureT-loop
-μ-loop m a words₀ indexes₀ x y n c₀ words indexes c = m - c
+μ-loop m a x y n columns₀ c₀ columns c = m - c
 
 -- the code's cell of a column is the interval of the column's index
-cell : (c : tie.After-top2 Inv-loop μ-loop) → let s = c .before .before .before .before .before .before .before .before in
+cell : (c : tie.After-top2 Inv-loop μ-loop) → let s = c .before .before .before .before .before .before in
     c .before .top .result * 2 ^ (s .args .m - s .args .a) + c .top2 .result
     ≡ interval (plain (generators (s .args .plan))) (s .args .m) (s .args .a) (2 ^ c .before .before .before .loop .c)
 cell c =
-    let s = c .before .before .before .before .before .before .before .before in
+    let s = c .before .before .before .before .before .before in
     ap₂ (λ (u v : ℕ). u * 2 ^ (s .args .m - s .args .a) + v) (c .before .top .ensures) (c .top2 .ensures)
-    ∙ sym (interval-at (s .pre .0) (c .before .before .before .loop .c))
+    ∙ sym (interval-at (s .pre) (c .before .before .before .loop .c))
 
 loop-holds : tie.Need-loop-holds Inv-loop μ-loop
-loop-holds c = (omega arith, putting-none _ _ _ (c .before .before .before .before .pre .1 .0) (c .before .before .before .before .pre .1 .1))
+loop-holds c = (omega arith, putting-none _ _ refl)
 
 mul-top : tie.Need-mul-top Inv-loop μ-loop
 mul-top c = omega arith
@@ -59,35 +58,23 @@ sub-join : tie.Need-sub-join Inv-loop μ-loop
 sub-join c = omega arith
 
 -- it is a word
-fits : (c : tie.After-top2 Inv-loop μ-loop) → let s = c .before .before .before .before .before .before .before .before in
+fits : (c : tie.After-top2 Inv-loop μ-loop) → let s = c .before .before .before .before .before .before in
     c .before .top .result * 2 ^ (s .args .m - s .args .a) + c .top2 .result < 2 ^ 32
 fits c =
-    let s = c .before .before .before .before .before .before .before .before in
-    let small = interval-lt (s .pre .0) (2 ^ c .before .before .before .loop .c) in
-    let wide : 2 ^ s .args .m ≤ 2 ^ 32 = pow-mono (s .pre .0 .fits) in
+    let s = c .before .before .before .before .before .before in
+    let small = interval-lt (s .pre) (2 ^ c .before .before .before .loop .c) in
+    let wide : 2 ^ s .args .m ≤ 2 ^ 32 = pow-mono (s .pre .fits) in
     let e = cell c in
     omega arith
 
 join-requires : tie.Need-join-requires Inv-loop μ-loop
 join-requires c κs = search needs
 
-mul-words : tie.Need-mul-words Inv-loop μ-loop
-mul-words c = omega arith
+mul-columns : tie.Need-mul-columns Inv-loop μ-loop
+mul-columns c = omega arith
 
-slice-write-words : tie.Need-slice-write-words Inv-loop μ-loop
-slice-write-words c = omega arith
-
-cast-indexes : tie.Need-cast-indexes Inv-loop μ-loop
-cast-indexes c = omega arith
-
-shl-indexes : tie.Need-shl-indexes Inv-loop μ-loop
-shl-indexes c = omega arith
-
-mul-indexes : tie.Need-mul-indexes Inv-loop μ-loop
-mul-indexes c = omega arith
-
-slice-write-indexes : tie.Need-slice-write-indexes Inv-loop μ-loop
-slice-write-indexes c = omega arith
+array-write-columns : tie.Need-array-write-columns Inv-loop μ-loop
+array-write-columns c = omega arith
 
 add-c : tie.Need-add-c Inv-loop μ-loop
 add-c c = omega arith
@@ -98,19 +85,16 @@ loop-less c = omega arith
 loop-again : tie.Need-loop-again Inv-loop μ-loop
 loop-again c =
     let l = c .before .before .before .before .loop in
-    let f = c .before .before .before .before .before .before .before .before .before .pre .0 .fits in
+    let f = c .before .before .before .before .before .before .before .pre .fits in
     let column = joined-whole _ _ _ (c .join .ensures) (fits (c .before)) ∙ cell (c .before) in
-    (omega arith, putting-more (l .inv .1) (omega arith) (c .join .result) _ column (one-shifted (l .c) (omega arith)))
-
-same-length : tie.Need-same-length Inv-loop μ-loop
-same-length c = c .before .loop .inv .1 .long-words ∙ sym (c .before .before .before .before .before .before .pre .1 .0)
-
-same-length-2 : tie.Need-same-length-2 Inv-loop μ-loop
-same-length-2 c = c .before .loop .inv .1 .long-indexes ∙ sym (c .before .before .before .before .before .before .pre .1 .1)
+    (omega arith, putting-more (l .inv .1) (omega arith) (c .join .result) column)
 
 returns : tie.Need-returns Inv-loop μ-loop
-returns c = let l = c .before .loop in let e : l .c ≡ c .before .before .before .before .before .before .args .m = omega arith in
-    rw e at (l .inv .1) .columns
+returns c =
+    let l = c .before .loop in
+    let s = c .before .before .before .before in
+    let e : l .c ≡ s .args .m = omega arith in
+    columns-of-shape (s .pre) (l .columns) (rw e at (l .inv .1) .each)
 
 pub put-columns-spec : {M : Type 1} → statement M
 put-columns-spec =
@@ -128,15 +112,9 @@ put-columns-spec =
     top-requires-2
     sub-join
     join-requires
-    mul-words
-    slice-write-words
-    cast-indexes
-    shl-indexes
-    mul-indexes
-    slice-write-indexes
+    mul-columns
+    array-write-columns
     add-c
     loop-less
     loop-again
-    same-length
-    same-length-2
     returns)

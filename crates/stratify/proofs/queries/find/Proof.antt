@@ -12,7 +12,8 @@ use Rattle.net.proofs.Interval.{block-lt}
 use Rattle.net.proofs.Query.{locate-found, locate-bad-shape}
 use Rattle.word.proofs.Joined.{joined-whole}
 use Rattle.plan.specs.Pair.{generators, scrambling, sequence}
-use Rattle.elimination.proofs.Determinant.{determinant-nonzero}
+use Rattle.elimination.specs.Elimination.{ShapeColumns, KernelIs}
+use Rattle.elimination.proofs.Shapes.{least-of-kernel, determinant-nonzero}
 use Rattle.stratify.specs.Answers.{of-location}
 use Rattle.stratify.proofs.Cell.{answer}
 use Rattle.stratify.proofs.queries.find.Statement.{statement}
@@ -28,37 +29,47 @@ Lies s i = let a = s .args in VisitIn (sequence (a .plan) (a .shift)) (a .m) (a 
 no-kernel : (c : tie.Else1) → c .before .eliminate .result .kernel ≡ 0
 no-kernel c = omega arith
 
--- the index that comes along with the plain cell is the basis's answer for it
-only : (c : tie.Else1) → let s = c .before .before .before in Only (Lies s) (s .args .block * 2 ^ s .args .m + c .before .eliminate .result .index)
+-- the columns are those of the shape, and the elimination is over them
+columns : (c : tie.After-eliminate) → let s = c .before .before .before in
+    ShapeColumns (generators (s .args .plan)) (s .args .m) (s .args .a) (c .before .shape-columns .result)
+columns c = let q = c .before .before .before .pre .2 in c .before .shape-columns .ensures .shape (q .wide) (q .size)
+
+kernel : (c : tie.After-eliminate) → KernelIs (c .before .shape-columns .result) (c .before .before .before .args .m) (c .eliminate .result .kernel)
+kernel c = c .eliminate .ensures .within (c .before .before .before .pre .2 .size) .kernel-is
+
+-- the index that comes back is the only one
+only : (c : tie.Else1) → let s = c .before .before .before .before in
+    Only (Lies s) (s .args .block * 2 ^ s .args .m + c .before .eliminate .result .index)
 only c =
-    let s = c .before .before .before in
+    let s = c .before .before .before .before in
     let a = s .args in
     let q = s .pre .2 in
-    let cell = c .before .before .plain-cell in
     let e = c .before .eliminate in
-    let f = e .ensures .shape (q .wide) (q .size) .found (no-kernel c) in
     answer (shape s) (a .shift .x) (a .shift .y) (s .pre .1 .x) (s .pre .1 .y) (a .block) (a .column) (a .row) (q .column) (q .row)
-    (f .0) (cell .result) (e .result .index) (f .1) (cell .ensures) (f .2)
+    (columns (c .before)) (e .result .index) (rw (no-kernel c, c .before .before .before .plain-cell .ensures) at (e .ensures .within (q .size)))
 
 plain-cell-requires : tie.Need-plain-cell-requires
 plain-cell-requires c κs = c .pre
+
+shape-columns-requires : tie.Need-shape-columns-requires
+shape-columns-requires c κs = search needs
 
 eliminate-requires : tie.Need-eliminate-requires
 eliminate-requires c κs = search needs
 
 returns : tie.Need-returns
 returns c =
-    let s = c .before .before .before in
+    let s = c .before .before .before .before in
     let a = s .args in
-    let e = c .before .eliminate in
     sym (ap (of-location (a .m) (a .a))
     (locate-bad-shape (generators (a .plan)) (scrambling (a .shift)) (a .m) (a .a) (a .block) (a .column) (a .row) (shape s) two
-    (e .result .kernel) (e .ensures .shape (s .pre .2 .wide) (s .pre .2 .size) .least (c .if1 .taken))))
+    (c .before .eliminate .result .kernel) (least-of-kernel (shape s) (columns (c .before)) (kernel (c .before)) (c .if1 .taken))))
 
 -- and it is a word
-fits : (c : tie.Else1) → let s = c .before .before .before in s .args .block * 2 ^ s .args .m + c .before .eliminate .result .index < 2 ^ 32
+fits : (c : tie.Else1) → let s = c .before .before .before .before in
+    s .args .block * 2 ^ s .args .m + c .before .eliminate .result .index < 2 ^ 32
 fits c =
-    let s = c .before .before .before in
+    let s = c .before .before .before .before in
     let q = s .pre .2 in
     let below = only c .holds .in-block .below in
     block-lt one-lt-two 32 (s .args .m) (s .args .block) (c .before .eliminate .result .index) (q .size) (q .block) (omega arith)
@@ -69,12 +80,12 @@ join-requires c κs = search needs
 returns-2 : tie.Need-returns-2
 returns-2 c =
     let d = c .before in
-    let s = d .before .before .before in
+    let s = d .before .before .before .before in
     let a = s .args in
-    let odd = determinant-nonzero (d .before .eliminate .ensures) (s .pre .2 .wide) (s .pre .2 .size) (no-kernel d) in
+    let odd = determinant-nonzero (shape s) (columns (d .before)) (kernel (d .before)) (no-kernel d) in
     sym (ap (of-location (a .m) (a .a))
     (locate-found (generators (a .plan)) (scrambling (a .shift)) (a .m) (a .a) (a .block) (a .column) (a .row)
     (c .join .result) odd (subst (Only (Lies s)) (sym (joined-whole _ _ _ (c .join .ensures) (fits d))) (only d))))
 
 pub find-spec : {M : Type 1} → statement M
-find-spec = tie.close (tie.spec plain-cell-requires eliminate-requires returns join-requires returns-2)
+find-spec = tie.close (tie.spec plain-cell-requires shape-columns-requires eliminate-requires returns join-requires returns-2)

@@ -12,7 +12,7 @@ use Rattle.net.specs.Elimination.{serial, plain-interval}
 use Rattle.net.proofs.Interval.{block-lt}
 use Rattle.word.proofs.Joined.{joined-whole}
 use Rattle.plan.specs.Pair.{generators, sequence, of-point}
-use Rattle.stratify.proofs.Cell.{cell-lt}
+use Rattle.stratify.proofs.Cell.{cell-fits}
 use Rattle.stratify.proofs.queries.plain_cell.Statement.{statement}
 use Rattle.stratify.proofs.queries.plain_cell.Tie as tie
 
@@ -74,7 +74,7 @@ fits : (c : tie.After-relative-to2) → let s = c .before .before .before .befor
 fits c =
     let s = c .before .before .before .before in
     let a = s .args in
-    let small = cell-lt (shape s) (a .shift .x) (a .shift .y) (s .pre .1 .x) (s .pre .1 .y) (a .block) (a .column) (a .row) in
+    let small = cell-fits (shape s) (a .shift .x) (a .shift .y) (s .pre .1 .x) (s .pre .1 .y) (a .block) (a .column) (a .row) in
     rw (cell c) (small (s .pre .2 .column) (s .pre .2 .row))
 
 returns : tie.Need-returns

@@ -3,9 +3,9 @@ use Prim.Native.Nat.{_<_}
 use native.Mathlib.Omega.{arith}
 use lib.Count.{trailingZeros}
 use Rattle.word.proofs.Prefix.{trailing-zeros-below}
-use Rattle.elimination.proofs.Clearing.{spread-none, spread-all}
-use Rattle.elimination.proofs.columns.spread.Statement.{statement}
-use Rattle.elimination.proofs.columns.spread.Tie as tie
+use Rattle.elimination.proofs.Entries.{spread-none, spread-all}
+use Rattle.elimination.proofs.clearing.spread.Statement.{statement}
+use Rattle.elimination.proofs.clearing.spread.Tie as tie
 
 within : (s : tie.Start) → trailingZeros 32 (s .args .by) < 32
 within s = let ne = s .pre in trailing-zeros-below (s .args .by) (omega (arith, ne)) (s .fits .by .fits)

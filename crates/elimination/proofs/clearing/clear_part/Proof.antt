@@ -1,45 +1,45 @@
--- `clear_part`: up to the word at hand the part is cleared, and from there on nothing has changed.
+-- `clear_part`: up to the entry at hand the part is cleared, and from there on nothing has changed.
 use mathlib.Core.Path.{_≡_, sym, _∙_}
 use Prim.Native.Nat.{_+_, _-_, _≤_}
 use native.Mathlib.Omega.{arith}
-use Rattle.elimination.proofs.Clearing.{Clearing, clearing-none, clearing-more}
-use Rattle.elimination.proofs.columns.clear_part.Statement.{statement}
-use Rattle.elimination.proofs.columns.clear_part.Tie as tie
+use Rattle.elimination.proofs.Entries.{Clearing, clearing-none, clearing-more}
+use Rattle.elimination.proofs.clearing.clear_part.Statement.{statement}
+use Rattle.elimination.proofs.clearing.clear_part.Tie as tie
 
 abbrev Inv-loop : tie.InvT-loop
-Inv-loop words₀ indexes₀ from by along at₀ words indexes at =
-    (from ≤ at) × (at ≤ from + 8) × Clearing by along from at words₀ indexes₀ words indexes
+Inv-loop words₀ indexes₀ from pivot at₀ words indexes at =
+    (from ≤ at) × (at ≤ from + 4) × Clearing (pivot .word) (pivot .index) from at words₀ indexes₀ words indexes
 
 abbrev μ-loop : tie.MeasureT-loop
-μ-loop words₀ indexes₀ from by along at₀ words indexes at = from + 8 - at
+μ-loop words₀ indexes₀ from pivot at₀ words indexes at = from + 4 - at
 
 loop-holds : tie.Need-loop-holds Inv-loop μ-loop
 loop-holds c = let s = c .before .before in
-    (omega arith, omega arith, clearing-none (s .args .by) (s .args .along) (s .args .from) _ _ (s .pre .2 .0) (s .pre .2 .1))
+    (omega arith, omega arith, clearing-none (s .args .pivot .word) (s .args .pivot .index) (s .args .from) _ _ (s .pre .2 .0) (s .pre .2 .1))
 
 add-loop : tie.Need-add-loop Inv-loop μ-loop
 add-loop c = omega arith
 
-mul-word : tie.Need-mul-word Inv-loop μ-loop
-mul-word c = omega arith
+mul-t7 : tie.Need-mul-t7 Inv-loop μ-loop
+mul-t7 c = omega arith
 
-slice-read-word : tie.Need-slice-read-word Inv-loop μ-loop
-slice-read-word c = omega arith
+slice-read-t10 : tie.Need-slice-read-t10 Inv-loop μ-loop
+slice-read-t10 c = omega arith
 
-spread-requires : tie.Need-spread-requires Inv-loop μ-loop
-spread-requires c κs = c .before .before .before .before .before .pre .0
+mul-t11 : tie.Need-mul-t11 Inv-loop μ-loop
+mul-t11 c = omega arith
+
+slice-read-t13 : tie.Need-slice-read-t13 Inv-loop μ-loop
+slice-read-t13 c = omega arith
+
+cleared-requires : tie.Need-cleared-requires Inv-loop μ-loop
+cleared-requires c κs = c .before .before .before .before .before .before .pre .0
 
 mul-words : tie.Need-mul-words Inv-loop μ-loop
 mul-words c = omega arith
 
 slice-write-words : tie.Need-slice-write-words Inv-loop μ-loop
 slice-write-words c = omega arith
-
-mul-index : tie.Need-mul-index Inv-loop μ-loop
-mul-index c = omega arith
-
-slice-read-index : tie.Need-slice-read-index Inv-loop μ-loop
-slice-read-index c = omega arith
 
 mul-indexes : tie.Need-mul-indexes Inv-loop μ-loop
 mul-indexes c = omega arith
@@ -60,8 +60,8 @@ loop-again c =
     let r = s .pre .1 in (
       omega arith,
       omega arith,
-      clearing-more (l .inv .2) (omega arith) (l .inv .0) (s .fits .by .fits) (s .fits .along .fits) (c .before .spread .result)
-          (c .before .spread .ensures),
+      clearing-more (l .inv .2) (omega arith) (l .inv .0) (c .cleared .result .word) (c .cleared .result .index)
+          (c .cleared .ensures .0) (c .cleared .ensures .1),
     )
 
 same-length : tie.Need-same-length Inv-loop μ-loop
@@ -73,7 +73,7 @@ same-length-2 c = c .before .loop .inv .2 .long-indexes ∙ sym (c .before .befo
 returns : tie.Need-returns Inv-loop μ-loop
 returns c =
     let l = c .before .loop in
-    let e : l .at ≡ c .before .before .before .before .args .from + 8 = omega arith in
+    let e : l .at ≡ c .before .before .before .before .args .from + 4 = omega arith in
     let done = rw e at (l .inv .2) in
     (done .clears, (done .words-stay, done .indexes-stay))
 
@@ -85,13 +85,13 @@ clear-part-spec =
     μ-loop
     loop-holds
     add-loop
-    mul-word
-    slice-read-word
-    spread-requires
+    mul-t7
+    slice-read-t10
+    mul-t11
+    slice-read-t13
+    cleared-requires
     mul-words
     slice-write-words
-    mul-index
-    slice-read-index
     mul-indexes
     slice-write-indexes
     add-at

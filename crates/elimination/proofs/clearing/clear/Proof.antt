@@ -3,16 +3,16 @@ use mathlib.Core.Path.{_≡_, sym, _∙_}
 use Prim.Native.Nat.{_-_, _%_, _≤_}
 use native.Mathlib.Omega.{arith}
 use Rattle.elimination.specs.Basis.{Long}
-use Rattle.elimination.proofs.Clearing.{Parts, parts-none, parts-more, fewer}
-use Rattle.elimination.proofs.columns.clear.Statement.{statement}
-use Rattle.elimination.proofs.columns.clear.Tie as tie
+use Rattle.elimination.proofs.Entries.{Parts, parts-none, parts-more, fewer}
+use Rattle.elimination.proofs.clearing.clear.Statement.{statement}
+use Rattle.elimination.proofs.clearing.clear.Tie as tie
 
 abbrev Inv-loop : tie.InvT-loop
-Inv-loop words₀ indexes₀ c n by along from₀ words indexes from =
-    (from % 8 ≡ 0) × (from ≤ 40) × Long words indexes × Parts by along c from words₀ indexes₀ words indexes
+Inv-loop words₀ indexes₀ c n pivot from₀ words indexes from =
+    (from % 4 ≡ 0) × (from ≤ 32) × Long words indexes × Parts (pivot .word) (pivot .index) c from words₀ indexes₀ words indexes
 
 abbrev μ-loop : tie.MeasureT-loop
-μ-loop words₀ indexes₀ c n by along from₀ words indexes from = 40 - from
+μ-loop words₀ indexes₀ c n pivot from₀ words indexes from = 32 - from
 
 mul-from : tie.Need-mul-from Inv-loop μ-loop
 mul-from c = omega arith

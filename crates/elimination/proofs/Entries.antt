@@ -1,4 +1,4 @@
--- Words cleared at a bit: the code's mask, a word more, and a part more. Assumes nothing.
+-- Entries cleared at a bit: the code's mask, an entry more, and a part more. Assumes nothing.
 use mathlib.Core.Path.{_≡_, refl, sym, ap, ap₂, _∙_}
 use mathlib.Core.Logic.{_⊎_, inl, inr, _≢_}
 use mathlib.Core.List.{List}
@@ -55,16 +55,20 @@ masked x w h = go (w % 2) (omega arith)
     go (suc zero) l = and-mask x 32 ∙ mod-eq-of-lt h ∙ sym (mul-one x)
     go (suc (suc b)) l = absurd (omega arith)
 
--- ---- a word more
+-- the code's exclusive or under the mask
+pub masked-added : (by w x y hit : ℕ) → x < 2 ^ 32 → hit ≡ w / 2 ^ trailingZeros 32 by % 2 * 4294967295 → bitXor y (bitAnd x hit) ≡ added by w x y
+masked-added by w x y hit h e = ap (bitXor y) (ap (bitAnd x) e ∙ masked x (w / 2 ^ trailingZeros 32 by) h)
+
+-- ---- an entry more
 
 pub record Clearing (by along from at : ℕ) (words indexes words′ indexes′ : List ℕ) : Type 0 where
-  pub long-words : length words′ ≡ 40
-  pub long-indexes : length indexes′ ≡ 40
+  pub long-words : length words′ ≡ 32
+  pub long-indexes : length indexes′ ≡ 32
   pub clears : Clears by along from at words indexes words′ indexes′
   pub words-stay : Stays from at words words′
   pub indexes-stay : Stays from at indexes indexes′
 
-pub clearing-none : (by along from : ℕ) (words indexes : List ℕ) → length words ≡ 40 → length indexes ≡ 40
+pub clearing-none : (by along from : ℕ) (words indexes : List ℕ) → length words ≡ 32 → length indexes ≡ 32
     → Clearing by along from from words indexes words indexes
 clearing-none by along from words indexes h k = record {
   long-words = h;
@@ -74,65 +78,47 @@ clearing-none by along from words indexes h k = record {
   indexes-stay = λ d o. refl;
 }
 
--- one list: an element is set, and the others are as they were
-at-place : (l l′ : List ℕ) (from at x : ℕ) → Stays from at l l′ → at < length l′ → (f : ℕ → ℕ)
-    → ((d : ℕ) → from ≤ d → d < at → getD l′ d 0 ≡ f d) → x ≡ f at
-    → ((d : ℕ) → from ≤ d → d < at + 1 → getD (set l′ at x) d 0 ≡ f d) × (from ≤ at → Stays from (at + 1) l (set l′ at x))
-at-place l l′ from at x stays room f old is = (new, kept)
+-- one list: an element more is set
+put-at : (l : List ℕ) (from at x : ℕ) → at < length l → (f : ℕ → ℕ) → ((d : ℕ) → from ≤ d → d < at → getD l d 0 ≡ f d) → x ≡ f at
+    → (d : ℕ) → from ≤ d → d < at + 1 → getD (set l at x) d 0 ≡ f d
+put-at l from at x room f old is d low high = go (lt-or-ge d at)
   where
-    new : (d : ℕ) → from ≤ d → d < at + 1 → getD (set l′ at x) d 0 ≡ f d
-    new d low high = go (lt-or-ge d at)
-      where
-        go : (d < at) ⊎ (at ≤ d) → getD (set l′ at x) d 0 ≡ f d
-        go (inl h) = getD-set-other l′ at d x 0 (λ e. omega (arith, e, h)) ∙ old d low h
-        go (inr h) = let e : d ≡ at = omega arith in rw e (getD-set-same l′ at x 0 room ∙ is)
+    go : (d < at) ⊎ (at ≤ d) → getD (set l at x) d 0 ≡ f d
+    go (inl h) = getD-set-other l at d x 0 (λ e. omega (arith, e, h)) ∙ old d low h
+    go (inr h) = let e : d ≡ at = omega arith in rw e (getD-set-same l at x 0 room ∙ is)
 
-    kept : from ≤ at → Stays from (at + 1) l (set l′ at x)
-    kept low d o = getD-set-other l′ at d x 0 (apart o) ∙ stays d (outside o)
-      where
-        apart : (d < from) ⊎ (at + 1 ≤ d) → d ≢ at
-        apart (inl h) e = omega (arith, e, h, low)
-        apart (inr h) e = omega (arith, e, h)
+-- and the others are as they were
+kept-at : (l l′ : List ℕ) (from at x : ℕ) → Stays from at l l′ → from ≤ at → Stays from (at + 1) l (set l′ at x)
+kept-at l l′ from at x stays low d o = getD-set-other l′ at d x 0 (apart o) ∙ stays d (outside o)
+  where
+    apart : (d < from) ⊎ (at + 1 ≤ d) → d ≢ at
+    apart (inl h) e = omega (arith, e, h, low)
+    apart (inr h) e = omega (arith, e, h)
 
-        outside : (d < from) ⊎ (at + 1 ≤ d) → (d < from) ⊎ (at ≤ d)
-        outside (inl h) = inl h
-        outside (inr h) = inr (omega arith)
+    outside : (d < from) ⊎ (at + 1 ≤ d) → (d < from) ⊎ (at ≤ d)
+    outside (inl h) = inl h
+    outside (inr h) = inr (omega arith)
 
 module _ {by along from at : ℕ} {words indexes words′ indexes′ : List ℕ} (now : Clearing by along from at words indexes words′ indexes′)
-    (room : at < 40) (low : from ≤ at) (by-fits : by < 2 ^ 32) (along-fits : along < 2 ^ 32) where
-  pub clearing-more : (hit : ℕ) → hit ≡ getD words′ at 0 / 2 ^ trailingZeros 32 by % 2 * 4294967295
-      → Clearing by along from (at + 1) words indexes (set words′ at (bitXor (getD words′ at 0) (bitAnd by hit)))
-      (set indexes′ at (bitXor (getD indexes′ at 0) (bitAnd along hit)))
-  clearing-more hit e = record {
-    long-words = length-set words′ at _ ∙ now .long-words;
-    long-indexes = length-set indexes′ at _ ∙ now .long-indexes;
-    clears = record { word = w .0; index = i .0 };
-    words-stay = w .1 low;
-    indexes-stay = i .1 low;
+    (room : at < 32) (low : from ≤ at) where
+  pub clearing-more : (word index : ℕ) → word ≡ added by (getD words′ at 0) by (getD words′ at 0)
+      → index ≡ added by (getD words′ at 0) along (getD indexes′ at 0)
+      → Clearing by along from (at + 1) words indexes (set words′ at word) (set indexes′ at index)
+  clearing-more word index e f = record {
+    long-words = length-set words′ at word ∙ now .long-words;
+    long-indexes = length-set indexes′ at index ∙ now .long-indexes;
+    clears = record {
+      word = put-at words′ from at word (omega (arith, now .long-words)) (λ d. added by (getD words d 0) by (getD words d 0))
+          (now .clears .word) (e ∙ ap (λ (z : ℕ). added by z by z) here);
+      index = put-at indexes′ from at index (omega (arith, now .long-indexes)) (λ d. added by (getD words d 0) along (getD indexes d 0))
+          (now .clears .index) (f ∙ ap₂ (λ (z v : ℕ). added by z along v) here (now .indexes-stay at (inr (omega arith))));
+    };
+    words-stay = kept-at words words′ from at word (now .words-stay) low;
+    indexes-stay = kept-at indexes indexes′ from at index (now .indexes-stay) low;
   }
     where
       here : getD words′ at 0 ≡ getD words at 0
       here = now .words-stay at (inr (omega arith))
-
-      there : getD indexes′ at 0 ≡ getD indexes at 0
-      there = now .indexes-stay at (inr (omega arith))
-
-      bit : (x : ℕ) → x < 2 ^ 32 → bitAnd x hit ≡ x * (getD words at 0 / 2 ^ trailingZeros 32 by % 2)
-      bit x h =
-          ap (bitAnd x) (e ∙ ap (λ (z : ℕ). z / 2 ^ trailingZeros 32 by % 2 * 4294967295) here)
-          ∙ masked x (getD words at 0 / 2 ^ trailingZeros 32 by) h
-
-      w : ((d : ℕ) → from ≤ d → d < at + 1
-          → getD (set words′ at (bitXor (getD words′ at 0) (bitAnd by hit))) d 0 ≡ added by (getD words d 0) by (getD words d 0))
-          × (from ≤ at → Stays from (at + 1) words (set words′ at (bitXor (getD words′ at 0) (bitAnd by hit))))
-      w = at-place words words′ from at (bitXor (getD words′ at 0) (bitAnd by hit)) (now .words-stay) (omega (arith, now .long-words))
-          (λ d. added by (getD words d 0) by (getD words d 0)) (now .clears .word) (ap₂ bitXor here (bit by by-fits))
-
-      i : ((d : ℕ) → from ≤ d → d < at + 1
-          → getD (set indexes′ at (bitXor (getD indexes′ at 0) (bitAnd along hit))) d 0 ≡ added by (getD words d 0) along (getD indexes d 0))
-          × (from ≤ at → Stays from (at + 1) indexes (set indexes′ at (bitXor (getD indexes′ at 0) (bitAnd along hit))))
-      i = at-place indexes indexes′ from at (bitXor (getD indexes′ at 0) (bitAnd along hit)) (now .indexes-stay) (omega (arith, now .long-indexes))
-          (λ d. added by (getD words d 0) along (getD indexes d 0)) (now .clears .index) (ap₂ bitXor there (bit along along-fits))
 
 -- ---- a part more
 
@@ -172,32 +158,18 @@ pub fewer : {by along c to end : ℕ} {words indexes words′ indexes′ : List 
     → Clears by along c end words indexes words′ indexes′
 fewer clears h = record { word = λ d l u. clears .word d l (omega arith); index = λ d l u. clears .index d l (omega arith) }
 
--- ---- the columns put one after the other
+-- ---- words put one after the other
 
-pub record Putting (L : ℕ → ℕ) (n : ℕ) (words indexes : List ℕ) : Type 0 where
-  pub long-words : length words ≡ 40
-  pub long-indexes : length indexes ≡ 40
-  pub columns : (c : ℕ) → c < n → (getD words c 0 ≡ L (2 ^ c)) × (getD indexes c 0 ≡ 2 ^ c)
+-- the first n words of a list of 32 are those of f
+pub record Putting (f : ℕ → ℕ) (n : ℕ) (words : List ℕ) : Type 0 where
+  pub long : length words ≡ 32
+  pub each : (c : ℕ) → c < n → getD words c 0 ≡ f c
 
-pub putting-none : (L : ℕ → ℕ) (words indexes : List ℕ) → length words ≡ 40 → length indexes ≡ 40 → Putting L 0 words indexes
-putting-none L words indexes h k = record { long-words = h; long-indexes = k; columns = λ c l. absurd (omega arith) }
+pub putting-none : (f : ℕ → ℕ) (words : List ℕ) → length words ≡ 32 → Putting f 0 words
+putting-none f words h = record { long = h; each = λ c l. absurd (omega arith) }
 
-pub putting-more : {L : ℕ → ℕ} {n : ℕ} {words indexes : List ℕ} → Putting L n words indexes → n < 40 → (word index : ℕ)
-    → word ≡ L (2 ^ n) → index ≡ 2 ^ n → Putting L (n + 1) (set words n word) (set indexes n index)
-putting-more {L} {n} {words} {indexes} now room word index e f = record {
-  long-words = length-set words n word ∙ now .long-words;
-  long-indexes = length-set indexes n index ∙ now .long-indexes;
-  columns = λ c l. go c (lt-or-ge c n) l;
+pub putting-more : {f : ℕ → ℕ} {n : ℕ} {words : List ℕ} → Putting f n words → n < 32 → (word : ℕ) → word ≡ f n → Putting f (n + 1) (set words n word)
+putting-more {f} {n} {words} now room word e = record {
+  long = length-set words n word ∙ now .long;
+  each = λ c. put-at words 0 n word (omega (arith, now .long)) f (λ d low. now .each d) e c (omega arith);
 }
-  where
-    go : (c : ℕ) → (c < n) ⊎ (n ≤ c) → c < n + 1 → (getD (set words n word) c 0 ≡ L (2 ^ c)) × (getD (set indexes n index) c 0 ≡ 2 ^ c)
-    go c (inl h) l =
-        let other : c ≢ n = omega arith in
-        (getD-set-other words n c word 0 other ∙ now .columns c h .0, getD-set-other indexes n c index 0 other ∙ now .columns c h .1)
-    go c (inr h) l =
-        let same : c ≡ n = omega arith in
-        rw same (
-          getD-set-same words n word 0 (omega (arith, now .long-words)) ∙ e,
-          getD-set-same indexes n index 0
-              (omega (arith, now .long-indexes)) ∙ f,
-        )
