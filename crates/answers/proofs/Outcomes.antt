@@ -1,18 +1,15 @@
--- What is known of the number and of the lent words once an outcome is known to be refused, or to be accepted.
+-- What is known of the number and of the values once an outcome is known to be refused, or to be accepted.
 -- Assumes nothing.
 use mathlib.Core.Path.{_≡_, sym, ap}
 use mathlib.Core.List.{List}
 use Prim.Native.Nat.{ℕ}
 use lib.ListN.{getD}
 use Rattle.refusal.specs.Outcome.{Outcome, accepted, refused}
-use Rattle.answers.specs.Answers.{answer-number, part-left, value-left}
+use Rattle.answers.specs.Answers.{answer-number, value-left}
 
 module _ {A : Type 0} {o : Outcome A} {n : ℕ} {vs : List ℕ} (e : o ≡ refused n vs) where
   pub refused-answer : n ≡ answer-number o
   refused-answer = sym (ap answer-number e)
-
-  pub refused-leaves : {B : Type 0} (part : A → B) (old : B) → old ≡ part-left o part old
-  refused-leaves part old = sym (ap (λ (p : Outcome A). part-left p part old) e)
 
   pub refused-gives : (k old : ℕ) → getD vs k old ≡ value-left o k old
   refused-gives k old = sym (ap (λ (p : Outcome A). value-left p k old) e)
@@ -20,9 +17,6 @@ module _ {A : Type 0} {o : Outcome A} {n : ℕ} {vs : List ℕ} (e : o ≡ refus
 module _ {A : Type 0} {o : Outcome A} {a : A} (e : o ≡ accepted a) where
   pub accepted-answer : 0 ≡ answer-number o
   accepted-answer = sym (ap answer-number e)
-
-  pub accepted-hands : {B : Type 0} (part : A → B) (old : B) → part a ≡ part-left o part old
-  accepted-hands part old = sym (ap (λ (p : Outcome A). part-left p part old) e)
 
   pub accepted-leaves : (k old : ℕ) → old ≡ value-left o k old
   accepted-leaves k old = sym (ap (λ (p : Outcome A). value-left p k old) e)

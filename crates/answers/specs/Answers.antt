@@ -2,17 +2,12 @@
 use Prim.Native.Nat.{ℕ}
 use lib.ListN.{getD}
 use Rattle.ranges.specs.Walk.{Walk, Answer, visited, ended, Stepped}
-use Rattle.refusal.specs.Outcome.{Outcome, accepted, refused}
+use Rattle.refusal.specs.Outcome.{Outcome, accepted, refused, part-left}
 
 -- 0, or the refusal's number in 01's table
 abbrev pub answer-number : {A : Type 0} → Outcome A → ℕ
 answer-number (accepted a) = 0
 answer-number (refused n vs) = n
-
--- what is left in a word that is lent for a part of an accepted result: that part, or, of a refused call, the old content
-abbrev pub part-left : {A B : Type 0} → Outcome A → (A → B) → B → B
-part-left (accepted a) part old = part a
-part-left (refused n vs) part old = old
 
 -- what is left in a word that is lent for value k of a refusal: refusal 3 gives m, a and j; every other answer leaves the old content
 abbrev pub value-left : {A : Type 0} → Outcome A → ℕ → ℕ → ℕ

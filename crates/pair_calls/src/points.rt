@@ -4,7 +4,8 @@ use crate::pairs::pair_plan;
 use plan::Shift;
 use word::Index;
 ghost use mathlib.Core.Path.{_≡_};
-ghost use Rattle.answers.specs.Answers.{answer-number, part-left};
+ghost use Rattle.refusal.specs.Outcome.{part-left};
+ghost use Rattle.answers.specs.Answers.{answer-number};
 ghost use Rattle.pair_calls.specs.Calls.{point-outcome, singles-outcome};
 
 // The answer, and what the words lent for the point hold then.

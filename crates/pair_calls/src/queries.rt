@@ -7,7 +7,8 @@ use stratify::Block;
 use stratify::Located;
 use word::Index;
 ghost use mathlib.Core.Path.{_≡_};
-ghost use Rattle.answers.specs.Answers.{answer-number, part-left, value-left};
+ghost use Rattle.refusal.specs.Outcome.{part-left};
+ghost use Rattle.answers.specs.Answers.{answer-number, value-left};
 ghost use Rattle.pair_calls.specs.Calls.{pair-query-outcome};
 
 // The answer, and what the words lent for the index and for the least index of a bad shape hold then.

@@ -1,10 +1,10 @@
--- Laws of the ordered tests: how the first of them decides; of what is granted, and of what comes after. Assumes nothing.
+-- Laws of the ordered tests: how the first of them decides; of what is granted, of what is left in lent memory, and of what comes after. Assumes nothing.
 use mathlib.Core.Path.{_≡_, refl, sym, ap, _∙_}
 use mathlib.Core.Bool.{Bool, true, false}
 use mathlib.Core.List.{List, [], _∷_, _++_}
 use Prim.Native.Nat.{ℕ}
 use native.Mathlib.Omega.{arith}
-use Rattle.refusal.specs.Outcome.{Outcome, accepted, refused, Test, first, granted, then}
+use Rattle.refusal.specs.Outcome.{Outcome, accepted, refused, Test, first, granted, part-left, then}
 
 module _ {A : Type 0} (after : Outcome A) where
   pub first-none : first [] after ≡ after
@@ -118,6 +118,30 @@ first-append {A = A} (t ∷ ts) us after = go (t .holds) (first-append ts us aft
     go true e = refl
     go false e = e
 
+-- what comes after tests counts only where all of them pass
+pub first-ext : {A : Type 0} (ts : List Test) {o p : Outcome A} → (AllPass ts → o ≡ p) → first ts o ≡ first ts p
+unfolding first
+first-ext [] h = h tt
+first-ext {A} (t ∷ ts) {o} {p} h = go (t .holds) refl (λ e. first-ext ts (λ all. h (e, all)))
+  where
+    go : (b : Bool) → t .holds ≡ b → (t .holds ≡ false → first ts o ≡ first ts p)
+        → _≡_ {A = Outcome A} (elim b [ true ↦ refused (t .number) [] | false ↦ first ts o ])
+        (elim b [ true ↦ refused (t .number) [] | false ↦ first ts p ])
+    go true e more = refl
+    go false e more = more e
+
+-- what comes after a call that begins with tests comes after those tests
+pub then-first : {A B : Type 0} (ts : List Test) (o : Outcome A) (p : Outcome B) → then (first ts o) p ≡ first ts (then o p)
+unfolding first then
+then-first [] o p = refl
+then-first {A} {B} (t ∷ ts) o p = go (t .holds) (then-first ts o p)
+  where
+    go : (b : Bool) → then (first ts o) p ≡ first ts (then o p)
+        → _≡_ {A = Outcome B} (then {A = A} (elim b [ true ↦ refused (t .number) [] | false ↦ first ts o ]) p)
+        (elim b [ true ↦ refused (t .number) [] | false ↦ first ts (then o p) ])
+    go true more = refl
+    go false more = more
+
 module _ {A B : Type 0} {o : Outcome A} (one other : B) where
   pub granted-accepted : {a : A} → o ≡ accepted a → granted o one other ≡ one
   unfolding granted
@@ -126,6 +150,14 @@ module _ {A B : Type 0} {o : Outcome A} (one other : B) where
   pub granted-refused : {n : ℕ} {vs : List ℕ} → o ≡ refused n vs → granted o one other ≡ other
   unfolding granted
   granted-refused e = ap (λ (p : Outcome A). granted p one other) e
+
+-- what is left in lent memory
+module _ {A B : Type 0} {o : Outcome A} (part : A → B) (old : B) where
+  pub refused-leaves : {n : ℕ} {vs : List ℕ} → o ≡ refused n vs → old ≡ part-left o part old
+  refused-leaves e = sym (ap (λ (p : Outcome A). part-left p part old) e)
+
+  pub accepted-hands : {a : A} → o ≡ accepted a → part a ≡ part-left o part old
+  accepted-hands e = sym (ap (λ (p : Outcome A). part-left p part old) e)
 
 module _ {A B : Type 0} {o : Outcome A} (after : Outcome B) where
   pub then-accepted : {a : A} → o ≡ accepted a → then o after ≡ after

@@ -27,6 +27,11 @@ unfoldable pub granted : {A B : Type 0} → Outcome A → B → B → B
 granted (accepted a) one other = one
 granted (refused n vs) one other = other
 
+-- what is left in memory that is lent for a part of an accepted result: that part, or, of a refused call, the old content
+abbrev pub part-left : {A B : Type 0} → Outcome A → (A → B) → B → B
+part-left (accepted a) part old = part a
+part-left (refused n vs) part old = old
+
 -- what comes after a call that is accepted; a refusal stands
 unfoldable pub then : {A B : Type 0} → Outcome A → Outcome B → Outcome B
 then (accepted a) after = after

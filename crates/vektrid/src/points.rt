@@ -3,9 +3,10 @@ use plan::Plan;
 use plan::Shift;
 use word::Index;
 ghost use mathlib.Core.Path.{_≡_};
+ghost use Rattle.refusal.specs.Outcome.{part-left};
 ghost use Rattle.net.specs.Sequence.{point};
 ghost use Rattle.plan.specs.Pair.{sequence, standard-pair};
-ghost use Rattle.answers.specs.Answers.{answer-number, part-left};
+ghost use Rattle.answers.specs.Answers.{answer-number};
 ghost use Rattle.pair_calls.specs.Calls.{point-outcome};
 
 // The point of an index, for any pair.

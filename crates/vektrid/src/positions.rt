@@ -3,7 +3,8 @@ use stage::Field;
 use stage::Placed;
 use stage::Region;
 ghost use mathlib.Core.Path.{_≡_};
-ghost use Rattle.answers.specs.Answers.{answer-number, part-left};
+ghost use Rattle.refusal.specs.Outcome.{part-left};
+ghost use Rattle.answers.specs.Answers.{answer-number};
 ghost use Rattle.vektrid.specs.Regions.{region-position-outcome};
 
 // Where the point with coordinate words x and y lies in a region, for a reader's field.

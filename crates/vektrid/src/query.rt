@@ -2,7 +2,8 @@
 use stratify::Block;
 use word::Index;
 ghost use mathlib.Core.Path.{_≡_};
-ghost use Rattle.answers.specs.Answers.{answer-number, part-left, value-left};
+ghost use Rattle.refusal.specs.Outcome.{part-left};
+ghost use Rattle.answers.specs.Answers.{answer-number, value-left};
 ghost use Rattle.pair_calls.specs.Calls.{pair-query-outcome};
 
 // The one index of a block in a cell; 3 gives the shape's least index.

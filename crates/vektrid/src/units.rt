@@ -1,8 +1,9 @@
 // Unit numbers: of a word, and as singles those of a point and of a step.
 use word::Index;
 ghost use mathlib.Core.Path.{_≡_};
+ghost use Rattle.refusal.specs.Outcome.{part-left};
 ghost use Rattle.unit.specs.Word.{double, single};
-ghost use Rattle.answers.specs.Answers.{answer-number, part-left, step-words, left-in};
+ghost use Rattle.answers.specs.Answers.{answer-number, step-words, left-in};
 ghost use Rattle.pair_calls.specs.Calls.{singles-outcome, two-singles, step-singles-outcome};
 
 // A word divided by 2^32, exactly.

@@ -4,9 +4,10 @@ use plan::Walk;
 use word::Index;
 ghost use mathlib.Core.Path.{_≡_};
 ghost use Prim.Native.Nat.{ℕ};
+ghost use Rattle.refusal.specs.Outcome.{part-left};
 ghost use Rattle.word.specs.Index.{index-count};
 ghost use Rattle.plan.specs.Walk.{open-outcome};
-ghost use Rattle.answers.specs.Answers.{answer-number, part-left, step-words, left-in};
+ghost use Rattle.answers.specs.Answers.{answer-number, step-words, left-in};
 ghost use Rattle.pair_calls.specs.Calls.{step-outcome};
 
 // A walk over count visits from start on.

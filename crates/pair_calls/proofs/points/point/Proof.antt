@@ -3,7 +3,8 @@
 use borrow.Author.Needs.{needs}
 use Rattle.net.specs.Sequence.{point}
 use Rattle.plan.specs.Pair.{sequence}
-use Rattle.answers.proofs.Outcomes.{refused-answer, refused-leaves, accepted-answer, accepted-hands}
+use Rattle.refusal.proofs.First.{refused-leaves, accepted-hands}
+use Rattle.answers.proofs.Outcomes.{refused-answer, accepted-answer}
 use Rattle.pair_calls.proofs.Loading.{stops, gives}
 use Rattle.pair_calls.proofs.points.point.Statement.{statement}
 use Rattle.pair_calls.proofs.points.point.Tie as tie
@@ -14,7 +15,7 @@ pair-answer-requires c κs = search needs
 returns : tie.Need-returns
 returns c =
     let e = stops (c .before .before .before .args .words .now) (c .before .pair-answer .ensures) _ (c .if1 .taken) in
-    (refused-answer e, (refused-leaves e (λ p. p .0) _, refused-leaves e (λ p. p .1) _))
+    (refused-answer e, (refused-leaves (λ p. p .0) _ e, refused-leaves (λ p. p .1) _ e))
 
 pair-plan-requires : tie.Need-pair-plan-requires
 pair-plan-requires c κs = search needs
@@ -29,7 +30,7 @@ returns-2 c =
     let n = l .before .before .pair-answer .ensures in
     let e = gives (a .words .now) n (l .before .if1 .left) (λ P. point (sequence P (record { x = a .shift-x; y = a .shift-y })) (a .index))
     (l .pair-plan .ensures) (c .point .ensures) in
-    (accepted-answer e, (accepted-hands e (λ p. p .0) _, accepted-hands e (λ p. p .1) _))
+    (accepted-answer e, (accepted-hands (λ p. p .0) _ e, accepted-hands (λ p. p .1) _ e))
 
 pub point-spec : {M : Type 1} → statement M
 point-spec =

@@ -4,7 +4,8 @@ use borrow.Author.Needs.{needs}
 use Rattle.net.specs.Sequence.{point}
 use Rattle.plan.specs.Pair.{sequence}
 use Rattle.unit.specs.Singles.{singles-of}
-use Rattle.answers.proofs.Outcomes.{refused-answer, refused-leaves, accepted-answer, accepted-hands}
+use Rattle.refusal.proofs.First.{refused-leaves, accepted-hands}
+use Rattle.answers.proofs.Outcomes.{refused-answer, accepted-answer}
 use Rattle.pair_calls.proofs.Loading.{stops, gives}
 use Rattle.pair_calls.proofs.points.point_singles.Statement.{statement}
 use Rattle.pair_calls.proofs.points.point_singles.Tie as tie
@@ -15,7 +16,7 @@ pair-answer-requires c κs = search needs
 returns : tie.Need-returns
 returns c =
     let e = stops (c .before .before .before .args .words .now) (c .before .pair-answer .ensures) _ (c .if1 .taken) in
-    (refused-answer e, (refused-leaves e (λ p. p .x) _, refused-leaves e (λ p. p .y) _))
+    (refused-answer e, (refused-leaves (λ p. p .x) _ e, refused-leaves (λ p. p .y) _ e))
 
 pair-plan-requires : tie.Need-pair-plan-requires
 pair-plan-requires c κs = search needs
@@ -31,7 +32,7 @@ returns-2 c =
     let e = gives (a .words .now) n (l .before .if1 .left)
     (λ P. singles-of (point (sequence P (record { x = a .shift-x; y = a .shift-y })) (a .index)))
     (l .pair-plan .ensures) (c .singles-at .ensures) in
-    (accepted-answer e, (accepted-hands e (λ p. p .x) _, accepted-hands e (λ p. p .y) _))
+    (accepted-answer e, (accepted-hands (λ p. p .x) _ e, accepted-hands (λ p. p .y) _ e))
 
 pub point-singles-spec : {M : Type 1} → statement M
 point-singles-spec =

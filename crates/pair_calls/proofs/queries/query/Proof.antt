@@ -6,11 +6,12 @@ use Prim.Native.Nat.{ℕ}
 use borrow.Author.Needs.{needs}
 use Rattle.refusal.specs.Outcome.{Outcome, refused}
 use Rattle.refusal.specs.Refusal.{number, of-refusal}
+use Rattle.refusal.proofs.First.{refused-leaves, accepted-hands}
 use Rattle.plan.specs.declared.pair.Plan.{Plan}
 use Rattle.plan.specs.Pair.{load-outcome, loaded}
 use Rattle.stratify.specs.Answers.{query-outcome, of-located}
 use Rattle.answers.specs.Answers.{answer-number}
-use Rattle.answers.proofs.Outcomes.{refused-answer, refused-leaves, refused-gives, accepted-answer, accepted-hands, accepted-leaves}
+use Rattle.answers.proofs.Outcomes.{refused-answer, refused-gives, accepted-answer, accepted-leaves}
 use Rattle.answers.proofs.Refusals.{no-values}
 use Rattle.pair_calls.specs.Calls.{pair-query-outcome}
 use Rattle.pair_calls.proofs.Loading.{stops, goes-on}
@@ -39,7 +40,7 @@ pair-answer-requires c κs = search needs
 returns : tie.Need-returns
 returns c =
     let e = stops (c .before .before .before .args .words .now) (c .before .pair-answer .ensures) _ (c .if1 .taken) in
-    (refused-answer e, (refused-leaves e (λ i. i) _, refused-gives e 2 _))
+    (refused-answer e, (refused-leaves (λ i. i) _ e, refused-gives e 2 _))
 
 pair-plan-requires : tie.Need-pair-plan-requires
 pair-plan-requires c κs = search needs
@@ -65,12 +66,12 @@ returns-2 c =
     let d = n .before .before in
     let e = located (d .before .before) ∙ ap of-located (d .located2 .given .1) in
     let three = e ∙ ap of-refusal (c .before .why .given .1) in
-    (n .number .ensures ∙ refused-answer e, (refused-leaves three (λ i. i) _, refused-gives three 2 _))
+    (n .number .ensures ∙ refused-answer e, (refused-leaves (λ i. i) _ three, refused-gives three 2 _))
 
 returns-3 : tie.Need-returns-3
 returns-3 c =
     let e = located (c .before .before .before) ∙ ap of-located (c .before .located .given .1) in
-    (accepted-answer e, (accepted-hands e (λ i. i) _, accepted-leaves e 2 _))
+    (accepted-answer e, (accepted-hands (λ i. i) _ e, accepted-leaves e 2 _))
 
 returns-4 : tie.Need-returns-4
 returns-4 c =
@@ -79,7 +80,7 @@ returns-4 c =
     let why = d .located2 .given .0 .0 in
     let e = located (d .before .before) ∙ ap of-located (d .located2 .given .1) in
     let other = e ∙ ap (refused (number why)) (no-values why (c .match2 .keys2)) in
-    (n .number .ensures ∙ refused-answer e, (refused-leaves other (λ i. i) _, refused-gives other 2 _))
+    (n .number .ensures ∙ refused-answer e, (refused-leaves (λ i. i) _ other, refused-gives other 2 _))
 
 pub query-spec : {M : Type 1} → statement M
 query-spec =

@@ -8,7 +8,8 @@ use mir.Syntax.{w32}
 use mir.Val.{SFits, toZ, ofZ}
 use mir.ValLaws.{toZ-ofZ}
 use Rattle.stage.specs.Region.{of-placed}
-use Rattle.answers.proofs.Outcomes.{refused-answer, refused-leaves, accepted-answer, accepted-hands}
+use Rattle.refusal.proofs.First.{refused-leaves, accepted-hands}
+use Rattle.answers.proofs.Outcomes.{refused-answer, accepted-answer}
 use Rattle.vektrid.specs.Regions.{region-position-outcome}
 use Rattle.vektrid.proofs.positions.vektrid_position.Statement.{statement}
 use Rattle.vektrid.proofs.positions.vektrid_position.Tie as tie
@@ -48,15 +49,15 @@ enum-known-placed-2 c = search needs
 returns : tie.Need-returns
 returns c =
     let e = placed (c .before .before .before .before) ∙ ap of-placed (c .before .before .placed .given .1) in
-    (c .number .ensures ∙ refused-answer e, (refused-leaves e (λ p. p .x) _, refused-leaves e (λ p. p .y) _))
+    (c .number .ensures ∙ refused-answer e, (refused-leaves (λ p. p .x) _ e, refused-leaves (λ p. p .y) _ e))
 
 returns-2 : tie.Need-returns-2
 returns-2 c =
     let e = placed (c .before .before .before .before .before) ∙ ap of-placed (c .before .before .before .placed2 .given .1) in (
       accepted-answer e,
       (
-        toZ-ofZ w32 _ (search needs) ∙ accepted-hands e (λ p. p .x) _,
-        toZ-ofZ w32 _ (search needs) ∙ accepted-hands e (λ p. p .y) _,
+        toZ-ofZ w32 _ (search needs) ∙ accepted-hands (λ p. p .x) _ e,
+        toZ-ofZ w32 _ (search needs) ∙ accepted-hands (λ p. p .y) _ e,
       ),
     )
 
