@@ -1,14 +1,11 @@
 -- The level's test: two comparisons under one number. Assumes nothing.
-use mathlib.Core.Path.{_≡_, refl, sym, ap, ap₂}
-use mathlib.Core.Bool.{Bool, true, false, _||_, true≢false}
+use mathlib.Core.Path.{_≡_, sym, ap, ap₂}
+use mathlib.Core.Bool.{Bool, true, false, _||_}
 use Prim.Native.Nat.{ℕ, _≤_, _<_}
 use borrow.Author.Tests.{lt-ltb, le-ltb, ltb-false}
 use lib.Dec.{ltb}
+use Rattle.ranges.proofs.Tests.{neither-holds}
 use Rattle.plan.specs.Pair.{largest-level, unknown-level, Level}
-
-both-false : (s t : Bool) → (s || t) ≡ false → (s ≡ false) × (t ≡ false)
-both-false true t h = absurd (true≢false h)
-both-false false t h = (refl, h)
 
 module _ (level : ℕ) where
   pub level-low : level < 1 → unknown-level level .holds ≡ true
@@ -24,5 +21,5 @@ module _ (level : ℕ) where
   -- and back
   pub level-of : unknown-level level .holds ≡ false → Level level
   level-of h =
-      let (low, high) = both-false (ltb level 1) (ltb largest-level level) h in
+      let (low, high) = neither-holds (ltb level 1) (ltb largest-level level) h in
       record { positive = ltb-false level 1 low; not-above = ltb-false largest-level level high }
