@@ -1,5 +1,5 @@
 -- What an elimination over the columns of a shape tells of the shape. Assumes nothing.
-use mathlib.Core.Path.{_≡_, sym, _∙_}
+use mathlib.Core.Path.{_≡_, refl, sym, ap, _∙_}
 use mathlib.Core.Logic.{_≢_, _⊎_, inl, inr}
 use mathlib.Core.List.{List}
 use Prim.Native.Nat.{ℕ, _+_, _-_, _*_, _/_, _^_, _≤_, _<_}
@@ -10,14 +10,15 @@ use Rattle.digits.proofs.Digit.{pow-pos}
 use Rattle.digits.proofs.Two.{one-lt-two}
 use Rattle.linear.proofs.Prime.{two}
 use Rattle.net.specs.Sequence.{Share, Alone, Apart, Least}
+use Rattle.net.specs.Generators.{product}
 use Rattle.net.specs.Scrambling.{plain}
 use Rattle.net.specs.Shape.{Shape, determinant}
 use Rattle.net.specs.Elimination.{serial, interval}
-use Rattle.net.proofs.Interval.{interval-pow, interval-additive, interval-of-share, share-of-interval, interval-zero}
+use Rattle.net.proofs.Interval.{interval-pow, interval-additive, interval-lt, interval-of-share, share-of-interval, interval-zero}
 use Rattle.net.proofs.Shape.{apart-of-alone, alone-iff}
 use Rattle.net.proofs.Units.{product-ext}
 use Rattle.word.specs.Matrices.{pair}
-use Rattle.elimination.specs.Elimination.{ShapeColumns, KernelIs}
+use Rattle.elimination.specs.Elimination.{ShapeColumns, ShapeInverse, KernelIs, Inverts}
 
 module _ {x y : List ℕ} {m a : ℕ} (shape : Shape (pair x y) m a) where
   -- the interval of a column's own index, as the code joins it
@@ -57,3 +58,12 @@ module _ {x y : List ℕ} {m a : ℕ} (shape : Shape (pair x y) m a) where
 
     pub determinant-nonzero : kernel ≡ 0 → determinant (pair x y) m a ≢ 0
     determinant-nonzero z = alone-iff shape two .1 (alone-without-kernel z)
+
+  -- the inverse of the columns
+  pub inverse-of-shape : {columns : List ℕ} → ShapeColumns (pair x y) m a columns → {inverse : List ℕ} → Inverts columns m 0 inverse
+      → ShapeInverse (pair x y) m a inverse
+  inverse-of-shape are {inverse} inverts i h =
+      ap (product 2 inverse) (sym (are i h)) ∙ inverts .back refl i h (rw (are i h) (interval-lt shape i))
+
+  pub apart-of-inverse : (inverse : List ℕ) → ShapeInverse (pair x y) m a inverse → Apart (plain (pair x y)) m a
+  apart-of-inverse inverse back i j hi hj s = sym (back i hi) ∙ ap (product 2 inverse) (interval-of-share shape i j s) ∙ back j hj

@@ -20,6 +20,10 @@ pub record ShapeColumnsAny (G : Generators) (m a : ℕ) (columns : List ℕ) : T
   pub shape : a ≤ m → m ≤ G .R → ShapeColumns G m a columns
   pub other : (m < a) ⊎ (G .R < m) → columns ≡ replicate index-bits 0
 
+-- an inverse leads from the number of the interval back to the index
+abbrev pub ShapeInverse : Generators → ℕ → ℕ → List ℕ → Type 0
+ShapeInverse G m a inverse = (i : ℕ) → i < 2 ^ m → product 2 inverse (interval (plain G) m a i) ≡ i
+
 -- ---- the kernel of the first m columns
 
 -- j is the least index above 0 whose product is 0, and it has m digits

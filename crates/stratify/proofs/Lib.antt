@@ -1,5 +1,9 @@
 pub mod Cell
 pub mod Tests
 pub mod Outcomes
+pub mod Answered
+pub mod Ordered
+pub mod OneByOne
+pub mod Overviewed
 pub mod Theorem
 pub mod Examples

@@ -1,13 +1,20 @@
--- The query's bounds by shifts are the definitions' tests. Assumes nothing.
-use mathlib.Core.Path.{_≡_, ap, ap₂}
+-- The query's bounds by shifts are the definitions' tests, and what the tests let through. Assumes nothing.
+use mathlib.Core.Path.{_≡_, sym, ap, ap₂, _∙_}
 use mathlib.Core.Logic.{_⊎_, inl, inr}
-use mathlib.Core.Bool.{Bool, true, false, _||_}
+use mathlib.Core.Bool.{Bool, true, false, not, _||_}
 use Prim.Native.Nat.{ℕ, _-_, _/_, _^_, _≤_, _<_}
 use native.Mathlib.Nat.{div-eq-of-lt}
-use borrow.Author.Tests.{le-leb, lt-leb}
-use lib.Dec.{leb}
+use native.Mathlib.Omega.{arith}
+use borrow.Author.Tests.{le-leb, lt-leb, leb-false, ltb-false, eq-eqb, ne-eqb}
+use lib.Dec.{leb, eqb}
 use Rattle.ranges.proofs.Order.{lt-or-ge}
-use Rattle.stratify.specs.Answers.{not-a-cell}
+use Rattle.ranges.proofs.Tests.{neither-holds}
+use Rattle.digits.proofs.Digit.{lt-of-div}
+use Rattle.digits.proofs.Two.{one-lt-two}
+use Rattle.refusal.specs.Outcome.{Outcome, accepted, first}
+use Rattle.refusal.proofs.First.{all-pass}
+use Rattle.plan.proofs.Level.{level-of}
+use Rattle.stratify.specs.Answers.{not-a-cell, query-tests, Cell}
 
 pub past-limit : (n w : ℕ) → (n / 2 ^ w ≡ 0 → ⊥) → 2 ^ w ≤ n
 past-limit n w ne = go (lt-or-ge n (2 ^ w))
@@ -25,3 +32,27 @@ module _ (m a c r : ℕ) where
 
   pub cell-within : c < 2 ^ a → r < 2 ^ (m - a) → not-a-cell 2 m a c r .holds ≡ false
   cell-within l h = ap₂ _||_ (lt-leb (2 ^ a) c l) (lt-leb (2 ^ (m - a)) r h)
+
+-- where the column lies inside, the row decides
+pub row-decides : (m a c r : ℕ) → c < 2 ^ a → not (eqb (r / 2 ^ (m - a)) 0) ≡ not-a-cell 2 m a c r .holds
+row-decides m a c r l = go (lt-or-ge r (2 ^ (m - a)))
+  where
+    go : (r < 2 ^ (m - a)) ⊎ (2 ^ (m - a) ≤ r) → not (eqb (r / 2 ^ (m - a)) 0) ≡ not-a-cell 2 m a c r .holds
+    go (inl h) = ap not (eq-eqb (r / 2 ^ (m - a)) 0 (div-eq-of-lt h)) ∙ sym (cell-within m a c r l h)
+    go (inr h) =
+        ap not (ne-eqb (r / 2 ^ (m - a)) 0 (λ e. let g = lt-of-div one-lt-two (m - a) r e in omega arith)) ∙ sym (row-past m a c r l h)
+
+-- the cell that a query's tests let through
+pub cell-of : (level m a k c r : ℕ) → _≡_ {A = Outcome Unit} (first (query-tests level m a k c r) (accepted tt)) (accepted tt) → Cell 32 m a k c r
+cell-of level m a k c r e =
+    let all = all-pass (accepted tt) (query-tests level m a k c r) e .0 in
+    let known = level-of level (all .0) .not-above in
+    let size : m ≤ level = ltb-false level m (all .1 .0) in
+    let inside = neither-holds (leb (2 ^ a) c) (leb (2 ^ (m - a)) r) (all .1 .1 .1 .0) in
+    record {
+      size = omega arith;
+      wide = ltb-false m a (all .1 .1 .0);
+      column = leb-false (2 ^ a) c (inside .0);
+      row = leb-false (2 ^ (m - a)) r (inside .1);
+      block = leb-false (2 ^ (32 - m)) k (all .1 .1 .1 .1 .0);
+    }

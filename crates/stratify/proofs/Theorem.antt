@@ -45,6 +45,7 @@ use Rattle.plan.proofs.Level.{level-of}
 use Rattle.stratify.specs.Answers.{of-verdict, of-location, check-outcome, query-outcome, ShiftFits, Cell}
 use Rattle.stratify.specs.Theorem.{PlainRelation, VisitedOnce, Covered, RelatedToPlain, Queried, Checked, Lists, GivesRun}
 use Rattle.stratify.specs.Theorem.{StandardPair, Theorems}
+use Rattle.stratify.proofs.OneByOne.{by-queries}
 use Rattle.stratify.proofs.Outcomes.{query-outcome-is, check-outcome-is, verdict-accepted, verdict-not-net, verdict-refuses}
 use Rattle.stratify.proofs.Outcomes.{location-accepted, location-not-net}
 
@@ -242,6 +243,7 @@ theorems = record {
   related = related;
   queried = queried;
   size-zero = size-zero;
+  overview = by-queries;
   checked = checked;
   accepted-covered = accepted-covered;
   accepted-related = accepted-related;

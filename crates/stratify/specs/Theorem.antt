@@ -27,6 +27,7 @@ use Rattle.plan.specs.Fill.{fill-outcome, filled}
 use Rattle.plan.specs.Walk.{open-outcome}
 use Rattle.plan.specs.Lists.{pointed, held, visits-walked}
 use Rattle.stratify.specs.Answers.{ShiftFits, Cell, check-outcome, query-outcome}
+use Rattle.stratify.specs.Overview.{ByQueries}
 
 -- ---- 1: one visit in every cell of every shape
 
@@ -133,6 +134,9 @@ pub record Theorems : Type 0 where
   -- (01: for m 0 the answer is the number of the block)
   pub size-zero : {P : Plan} → Valid (generators P) → {s : Shift} → ShiftFits s → {level : ℕ} → Level level
       → {k : ℕ} → k < 2 ^ index-bits → query-outcome P s level 0 0 k 0 0 ≡ accepted k
+  -- of many cells in one query, where columns, rows and answers are equally many
+  pub overview : (P : Plan) (s : Shift) (level m a k : ℕ) (cs rs answers : List ℕ) → length cs ≡ length rs → length cs ≡ length answers
+      → ByQueries P s level m a k cs rs answers
   -- of 64 words
   pub checked : (words : List ℕ) → Below (2 ^ 32) words → length words ≡ 64 → {level : ℕ} → Level level → Checked words level
   pub accepted-covered : (words : List ℕ) → Below (2 ^ 32) words → (M : ℕ) → check-outcome words M ≡ accepted tt → Covered (loaded words) M

@@ -1,9 +1,12 @@
-// The check of generator matrices and the query of a cell, over one elimination. Both public functions are total: no `requires`,
-// no trap, and every answer promised, refused ones too.
+// The check of generator matrices, the query of a cell and the overview of many, over one elimination. The public functions are total: no
+// `requires`, no trap, and every answer promised, refused ones too.
 mod checks;
+mod judging;
+mod overviews;
 mod queries;
 
 pub use checks::check;
+pub use overviews::overview;
 pub use queries::Block;
 pub use queries::Located;
 pub use queries::query;

@@ -1,11 +1,12 @@
 // The query of a cell: the one index of a block that lies in it.
+use crate::judging::judge;
 use elimination::eliminate;
 use elimination::shape_columns;
 use plan::Plan;
 use plan::Point;
 use plan::Shift;
+use refusal::Judgement;
 use refusal::Refusal;
-use word::INDEX_BITS;
 use word::Index;
 use word::join;
 use word::top;
@@ -45,7 +46,15 @@ fn relative_to(coordinate: u32, t: u32, asked: u32) -> u32
 }
 
 // The number of the plain cell that answers for a cell of a block: the cell relative to that of the block's first visit.
-fn plain_cell(plan: Plan, shift: Shift, m: u32, a: u32, column: u32, row: u32, block: Block) -> u32
+pub(crate) fn plain_cell(
+    plan: Plan,
+    shift: Shift,
+    m: u32,
+    a: u32,
+    column: u32,
+    row: u32,
+    block: Block,
+) -> u32
     requires { ⌜ Valid (generators plan) × ShiftFits shift × Cell largest-level m a block column row ⌝ }
     ensures { λ r. ⌜ r ≡ plain-interval (sequence plan shift) m a block column row ⌝ }
 {
@@ -83,23 +92,12 @@ pub fn query(
 ) -> Located
     ensures { λ r. ⌜ of-located r ≡ query-outcome plan shift level m a block column row ⌝ }
 {
-    if Plan::unknown_level(level) {
-        return Located::Refused(Refusal::Level);
-    }
-    if m > level {
-        return Located::Refused(Refusal::Size);
-    }
-    if a > m {
-        return Located::Refused(Refusal::Shape);
-    }
-    if (column as u64) >> a != 0 {
-        return Located::Refused(Refusal::Cell);
-    }
-    if (row as u64) >> (m - a) != 0 {
-        return Located::Refused(Refusal::Cell);
-    }
-    if (block as u64) >> (INDEX_BITS - m) != 0 {
-        return Located::Refused(Refusal::Block);
+    let judged = judge(level, m, a, column, row, block);
+    match judged {
+        Judgement::Refused(why) => {
+            return Located::Refused(why);
+        }
+        Judgement::Accepted => {}
     }
     find(plan, shift, m, a, column, row, block)
 }

@@ -1,0 +1,147 @@
+-- Cells of an overview: their tests as lists, and one product with the columns of the inverse for each. Assumes nothing.
+use mathlib.Core.Path.{_≡_, refl, sym, ap, ap₂, _∙_}
+use mathlib.Core.Bool.{false, _||_}
+use mathlib.Core.List.{List, [], _∷_}
+use Prim.Native.Nat.{ℕ, zero, suc, _+_, _-_, _*_, _^_, _≤_, _<_}
+use native.Mathlib.Nat.{lt-of-lt-of-le}
+use native.Mathlib.Omega.{arith}
+use borrow.Author.Tests.{leb-false}
+use lib.Bits.{bitXor}
+use lib.Dec.{leb}
+use lib.ListN.{length, getD, drop, drop-of-length-le}
+use lib.Pow.{pow-pos, pow-mono}
+use lib.Seq.{drop-cons, ext-getD}
+use Rattle.ranges.specs.Unique.{Only}
+use Rattle.ranges.proofs.Tests.{neither-holds}
+use Rattle.digits.specs.Digits.{plus, minus}
+use Rattle.digits.proofs.Arithmetic.{plus-assoc, plus-comm, plus-join, plus-split, zero-plus, minus-lt}
+use Rattle.digits.proofs.Two.{one-lt-two, plus-two, minus-two}
+use Rattle.net.specs.Generators.{product}
+use Rattle.net.specs.Sequence.{Sequence, VisitIn, column, row}
+use Rattle.net.specs.Scrambling.{shifted}
+use Rattle.net.specs.Shape.{Shape}
+use Rattle.net.specs.Query.{visit-index}
+use Rattle.net.specs.Elimination.{serial, plain-interval}
+use Rattle.net.proofs.Interval.{row-below, block-lt, serial-lt}
+use Rattle.net.proofs.Product.{product-plus}
+use Rattle.net.proofs.VisitIndex.{visit-index-only}
+use Rattle.net.proofs.Basis.{index-only}
+use Rattle.word.specs.Matrices.{pair}
+use Rattle.elimination.specs.Elimination.{ShapeInverse}
+use Rattle.elimination.proofs.Shapes.{apart-of-inverse}
+use Rattle.stratify.specs.Answers.{not-a-cell}
+use Rattle.stratify.specs.Overview.{some-outside, others-outside, AllInside, visit-indexes}
+use Rattle.stratify.proofs.Cell.{fits}
+
+-- ---- cells outside
+
+module _ (m a : ℕ) where
+  -- one cell more, as a loop over the lists meets it
+  pub outside-more : (cs rs : List ℕ) (i : ℕ) → i < length cs → length cs ≡ length rs
+      → some-outside m a (drop i cs) (drop i rs)
+      ≡ (not-a-cell 2 m a (getD cs i 0) (getD rs i 0) .holds || some-outside m a (drop (suc i) cs) (drop (suc i) rs))
+  unfolding some-outside
+  outside-more cs rs i h e = ap₂ (some-outside m a) (drop-cons cs i 0 h) (drop-cons rs i 0 (omega arith))
+
+  pub outside-past : (cs rs : List ℕ) (i : ℕ) → length cs ≤ i → some-outside m a (drop i cs) (drop i rs) ≡ false
+  unfolding some-outside
+  outside-past cs rs i h = ap (λ (l : List ℕ). some-outside m a l (drop i rs)) (drop-of-length-le cs h)
+
+  -- no cell outside
+  all-inside : (cs rs : List ℕ) → length cs ≡ length rs → some-outside m a cs rs ≡ false → AllInside m a cs rs
+  unfolding some-outside
+  all-inside [] rs e h i l = absurd (omega arith)
+  all-inside (c ∷ cs) [] e h i l = absurd (omega arith)
+  all-inside (c ∷ cs) (r ∷ rs) e h zero l =
+      let p = neither-holds (not-a-cell 2 m a c r .holds) (some-outside m a cs rs) h in
+      let q = neither-holds (leb (2 ^ a) c) (leb (2 ^ (m - a)) r) (p .0) in
+      (leb-false _ _ (q .0), leb-false _ _ (q .1))
+  all-inside (c ∷ cs) (r ∷ rs) e h (suc i) l =
+      let p = neither-holds (not-a-cell 2 m a c r .holds) (some-outside m a cs rs) h in
+      all-inside cs rs (omega arith) (p .1) i (omega arith)
+
+  -- the first cell inside, and none of the others outside
+  pub inside : (cs rs : List ℕ) → length cs ≡ length rs → not-a-cell 2 m a (getD cs 0 0) (getD rs 0 0) .holds ≡ false
+      → others-outside m a cs rs .holds ≡ false → AllInside m a cs rs
+  unfolding some-outside
+  inside [] rs e f h = all-inside [] rs e refl
+  inside (c ∷ cs) [] e f h = absurd (omega arith)
+  inside (c ∷ cs) (r ∷ rs) e f h = all-inside (c ∷ cs) (r ∷ rs) e (ap₂ _||_ f h)
+
+-- ---- the answers by place
+
+module _ (S : Sequence) (m a k : ℕ) where
+  length-visits : (cs rs : List ℕ) → length cs ≡ length rs → length (visit-indexes S m a k cs rs) ≡ length cs
+  unfolding visit-indexes
+  length-visits [] rs e = refl
+  length-visits (c ∷ cs) [] e = absurd (omega arith)
+  length-visits (c ∷ cs) (r ∷ rs) e = ap suc (length-visits cs rs (omega arith))
+
+  visit-at : (cs rs : List ℕ) → length cs ≡ length rs → (i : ℕ) → i < length cs
+      → getD (visit-indexes S m a k cs rs) i 0 ≡ visit-index S m a k (getD cs i 0) (getD rs i 0)
+  unfolding visit-indexes
+  visit-at [] rs e i l = absurd (omega arith)
+  visit-at (c ∷ cs) [] e i l = absurd (omega arith)
+  visit-at (c ∷ cs) (r ∷ rs) e zero l = refl
+  visit-at (c ∷ cs) (r ∷ rs) e (suc i) l = visit-at cs rs (omega arith) i (omega arith)
+
+  pub visits-are : (cs rs answers : List ℕ) → length cs ≡ length rs → length answers ≡ length cs
+      → ((i : ℕ) → i < length cs → getD answers i 0 ≡ visit-index S m a k (getD cs i 0) (getD rs i 0))
+      → answers ≡ visit-indexes S m a k cs rs
+  visits-are cs rs answers e f each =
+      ext-getD 0 answers _ (f ∙ sym (length-visits cs rs e))
+      (λ i h. each i (omega arith) ∙ sym (visit-at cs rs e i (omega arith)))
+
+-- ---- one product a cell
+
+-- the cell's own number is a word
+pub own-number-lt : {x y : List ℕ} {m a : ℕ} → Shape (pair x y) m a → (c r : ℕ) → c < 2 ^ a → r < 2 ^ (m - a) → c * 2 ^ (m - a) + r < 2 ^ 32
+unfolding serial
+own-number-lt {m = m} {a = a} shape c r hc hr = lt-of-lt-of-le (serial-lt one-lt-two m a c r (shape .wide) hc hr) (pow-mono (shape .fits))
+
+module _ {x y : List ℕ} {m a : ℕ} (shape : Shape (pair x y) m a) (s t : ℕ) (hs : s < 2 ^ 32) (ht : t < 2 ^ 32) (k : ℕ)
+    (inverse : List ℕ) (back : ShapeInverse (pair x y) m a inverse) where
+  abbrev number : ℕ → ℕ → ℕ
+  number = plain-interval (shifted (pair x y) s t) m a k
+
+  -- the answer is the product with the number of the plain cell
+  only : (c r : ℕ) → c < 2 ^ a → r < 2 ^ (m - a) → Only (VisitIn (shifted (pair x y) s t) m a k c r) (k * 2 ^ m + product 2 inverse (number c r))
+  only c r hc hr =
+      index-only shape (apart-of-inverse shape inverse back) s t hs ht k c r hc hr (product 2 inverse (number c r))
+      (λ i h e. ap (product 2 inverse) (sym e) ∙ back i h)
+
+  product-below : (c r : ℕ) → c < 2 ^ a → r < 2 ^ (m - a) → product 2 inverse (number c r) < 2 ^ m
+  product-below c r hc hr = let below = only c r hc hr .holds .in-block .below in omega arith
+
+  -- the number of the plain cell is the cell's own, and that of column 0 and row 0 added
+  less-is : (c u : ℕ) → plus 2 c (minus 2 0 u) ≡ minus 2 c u
+  less-is c u = ap (plus 2 c) (minus-two 0 u ∙ sym (plus-two 0 u) ∙ zero-plus one-lt-two u) ∙ plus-two c u ∙ sym (minus-two c u)
+
+  number-is : (c r : ℕ) → r < 2 ^ (m - a) → plus 2 (number 0 0) (c * 2 ^ (m - a) + r) ≡ number c r
+  unfolding serial
+  number-is c r hr =
+      let u = column (shifted (pair x y) s t) a (k * 2 ^ m) in
+      let v = row (shifted (pair x y) s t) (m - a) (k * 2 ^ m) in
+      let low : minus 2 0 v < 2 ^ (m - a) = minus-lt one-lt-two (m - a) 0 v (pow-pos (m - a))
+      (row-below one-lt-two (fits shape s t hs ht) m a (shape .wide) (shape .fits) (k * 2 ^ m)) in
+      plus-comm one-lt-two (number 0 0) (c * 2 ^ (m - a) + r)
+      ∙ plus-join one-lt-two (m - a) c (minus 2 0 u) r (minus 2 0 v) hr low
+      ∙ ap₂ (λ (p q : ℕ). p * 2 ^ (m - a) + q) (less-is c u) (less-is r v)
+
+  -- what block and shift add for all cells
+  pub base-lt : k < 2 ^ (32 - m) → k * 2 ^ m + product 2 inverse (number 0 0) < 2 ^ 32
+  base-lt hk = block-lt one-lt-two 32 m k (product 2 inverse (number 0 0)) (shape .fits) hk (product-below 0 0 (pow-pos a) (pow-pos (m - a)))
+
+  pub answered : (c r base : ℕ) → c < 2 ^ a → r < 2 ^ (m - a) → base ≡ k * 2 ^ m + product 2 inverse (number 0 0)
+      → bitXor base (product 2 inverse (c * 2 ^ (m - a) + r)) ≡ visit-index (shifted (pair x y) s t) m a k c r
+  answered c r base hc hr e =
+      let p = product 2 inverse (c * 2 ^ (m - a) + r) in
+      let q = product 2 inverse (number 0 0) in
+      let n = product 2 inverse (number c r) in
+      let first = k * 2 ^ m in
+      sym (plus-two base p)
+      ∙ ap (λ (z : ℕ). plus 2 z p) (e ∙ sym (plus-split one-lt-two m k q (product-below 0 0 (pow-pos a) (pow-pos (m - a)))))
+      ∙ plus-assoc one-lt-two first q p
+      ∙ ap (plus 2 first) (sym (product-plus one-lt-two inverse (number 0 0) (c * 2 ^ (m - a) + r)) ∙ ap (product 2 inverse) (number-is c r hr))
+      ∙ plus-split one-lt-two m k n (product-below c r hc hr)
+      ∙ sym (visit-index-only (shifted (pair x y) s t) m a c r k (first + n) (only c r hc hr))

@@ -1,0 +1,132 @@
+// An overview: many cells of one shape and block in one query, with one elimination for all of them.
+use crate::Block;
+use crate::judging::judge;
+use crate::judging::outside;
+use crate::queries::plain_cell;
+use elimination::invert;
+use elimination::shape_columns;
+use plan::Plan;
+use plan::Shift;
+use refusal::Judgement;
+use refusal::Refusal;
+use word::Columns;
+use word::Index;
+use word::join;
+ghost use mathlib.Core.Path.{_≡_};
+ghost use Prim.Native.Nat.{_≤_};
+ghost use lib.ListN.{length, getD};
+ghost use Rattle.net.specs.Generators.{Valid};
+ghost use Rattle.refusal.specs.Outcome.{accepted, then, part-left};
+ghost use Rattle.refusal.specs.Refusal.{of-judgement};
+ghost use Rattle.elimination.specs.Elimination.{ShapeInverse};
+ghost use Rattle.plan.specs.Pair.{generators, sequence, largest-level};
+ghost use Rattle.stratify.specs.Answers.{Cell, ShiftFits};
+ghost use Rattle.stratify.specs.Overview.{AllInside, others-outside, overview-outcome, visit-indexes};
+
+// The first of a list, or 0 where it is empty.
+fn first_or_zero(list: &[u32]) -> u32
+    ensures { λ r. ⌜ r ≡ getD (now (list .entry)) 0 0 ⌝ }
+{
+    if list.len() == 0 {
+        return 0;
+    }
+    list[0]
+}
+
+// Whether a cell after the first lies outside the shape (m, a).
+fn others_outside(m: u32, a: u32, columns: &[u32], rows: &[u32]) -> bool
+    requires { ⌜ (a ≤ m) × (m ≤ 32) × (length (now columns) ≡ length (now rows)) ⌝ }
+    ensures { λ r. ⌜ r ≡ others-outside m a (now (columns .entry)) (now (rows .entry)) .holds ⌝ }
+{
+    let mut i: usize = 1;
+    while i < columns.len() {
+        if outside(m, a, columns[i], rows[i]) {
+            return true;
+        }
+        i += 1;
+    }
+    false
+}
+
+// Writes the index of the block in each cell: the product of the inverse with the cell's number, and one word that block and shift add for
+// all cells. That word is the answer for column 0 and row 0.
+fn put_answers(
+    plan: Plan,
+    shift: Shift,
+    inverse: Columns,
+    m: u32,
+    a: u32,
+    block: Block,
+    columns: &[u32],
+    rows: &[u32],
+    answers: &mut [Index],
+)
+    requires { ⌜ Valid (generators plan) × ShiftFits shift × Cell largest-level m a block 0 0 × ShapeInverse (generators plan) m a inverse ⌝ }
+    requires { ⌜
+        AllInside m a (now columns) (now rows) × (length (now columns) ≡ length (now rows)) × (length (now columns) ≡ length (now answers)) ⌝ }
+    ensures { λ _. ⌜ now (answers .exit) ≡ visit-indexes (sequence plan shift) m a block (now (columns .entry)) (now (rows .entry)) ⌝ }
+{
+    let origin = plain_cell(plan, shift, m, a, 0, 0, block);
+    let base = join(block, word::product(inverse, origin), m);
+    let mut i: usize = 0;
+    while i < columns.len() {
+        let cell = join(columns[i], rows[i], m - a);
+        answers[i] = base ^ word::product(inverse, cell);
+        i += 1;
+    }
+}
+
+// The index of a block in each of many cells of the shape (m, a). It is refused as the query of the earliest refused cell would be, and
+// then the answers are as they were: nothing is written before every cell is judged.
+pub fn overview(
+    plan: Plan,
+    shift: Shift,
+    level: u32,
+    m: u32,
+    a: u32,
+    block: Block,
+    columns: &[u32],
+    rows: &[u32],
+    answers: &mut [Index],
+) -> Judgement
+    ensures answer { λ r. ⌜
+        of-judgement r
+        ≡ then (overview-outcome plan shift level m a block (now (columns .entry)) (now (rows .entry)) (now (answers .entry))) (accepted tt) ⌝ }
+    ensures answers { λ r. ⌜
+        now (answers .exit)
+        ≡ part-left (overview-outcome plan shift level m a block (now (columns .entry)) (now (rows .entry)) (now (answers .entry))) (λ is. is)
+        (now (answers .entry)) ⌝ }
+{
+    let n = columns.len();
+    if n != rows.len() {
+        return Judgement::Refused(Refusal::BufferLengths);
+    }
+    if n != answers.len() {
+        return Judgement::Refused(Refusal::BufferLengths);
+    }
+    let judged = judge(
+        level,
+        m,
+        a,
+        first_or_zero(columns),
+        first_or_zero(rows),
+        block,
+    );
+    match judged {
+        Judgement::Refused(why) => {
+            return Judgement::Refused(why);
+        }
+        Judgement::Accepted => {}
+    }
+    let found = invert(shape_columns(plan, m, a), m);
+    let kernel = found.kernel;
+    if kernel != 0 {
+        return Judgement::Refused(Refusal::NotNet { m, a, j: kernel });
+    }
+    if others_outside(m, a, columns, rows) {
+        return Judgement::Refused(Refusal::Cell);
+    }
+    let inverse = found.columns;
+    put_answers(plan, shift, inverse, m, a, block, columns, rows, answers);
+    Judgement::Accepted
+}
