@@ -10,6 +10,7 @@ use Rattle.word.specs.Index.{index-count, last-index}
 use Rattle.plan.specs.Pair.{sequence, standard-pair, load-outcome, loaded}
 use Rattle.plan.specs.Fill.{fill-outcome, filled, Buffers}
 use Rattle.stratify.specs.Answers.{query-outcome}
+use Rattle.stratify.specs.Overview.{overview-outcome}
 use Rattle.unit.specs.declared.pairs.Singles.{Singles}
 use Rattle.unit.specs.declared.steps.SinglesVisit.{SinglesVisit}
 use Rattle.unit.specs.Singles.{singles-of, visit-singles}
@@ -57,6 +58,12 @@ step-singles-outcome words shift-x shift-y next left =
 abbrev pub pair-query-outcome : List ℕ → (shift-x shift-y level m a column row block : ℕ) → Outcome ℕ
 pair-query-outcome words shift-x shift-y level m a column row block =
     then (load-outcome words) (query-outcome (loaded words) (record { x = shift-x; y = shift-y }) level m a block column row)
+
+-- the overview of many cells in a block
+abbrev pub pair-overview-outcome : List ℕ → (shift-x shift-y level m a block : ℕ) → (columns rows answers : List ℕ) → Outcome (List ℕ)
+pair-overview-outcome words shift-x shift-y level m a block columns rows answers =
+    then (load-outcome words)
+    (overview-outcome (loaded words) (record { x = shift-x; y = shift-y }) level m a block columns rows answers)
 
 -- the words of the standard pair; where there are not 64 words, they stay as they were
 abbrev pub standard-words : List ℕ → List ℕ

@@ -7,6 +7,7 @@ mod fills;
 mod interface;
 mod judging;
 mod listings;
+mod overview;
 mod pairs;
 mod points;
 mod positions;
