@@ -1,4 +1,4 @@
-//! From an elementary interval back to the visit in it.
+//! From elementary intervals back to the visits in them, one by one and many at once.
 
 use crate::library;
 use crate::pair::Pair;
@@ -22,6 +22,22 @@ pub struct Cell {
     pub block: u32,
 }
 
+/// Many elementary intervals (cells) of one shape, and the block to look in. Interval number i has the
+/// column `columns[i]` and the row `rows[i]`; the same one may stand there more than once.
+#[derive(Clone, Copy, Debug, PartialEq, Eq, Hash)]
+pub struct Cells<'a> {
+    /// The block has 2^m visits.
+    pub m: u32,
+    /// The shape has 2^a columns.
+    pub a: u32,
+    /// The columns, each below 2^a.
+    pub columns: &'a [u32],
+    /// The rows, as many as the columns, each below 2^(m-a).
+    pub rows: &'a [u32],
+    /// The block, below 2^(32-m).
+    pub block: u32,
+}
+
 impl Pair {
     /// The one index of the block whose point lies in the cell, or the first refusal that applies,
     /// in the order 2, 4, 5, 6, 7, 3. The pair need not be checked before.
@@ -37,6 +53,36 @@ impl Pair {
     /// ```
     pub fn query(&self, shift: Shift, level: u32, cell: Cell) -> Result<u32, Refusal> {
         query_words(self.words(), shift, level, cell)
+    }
+
+    /// Writes to `answers[i]` what [`Pair::query`] gives for cell number i, for all of them in one
+    /// call. Or the first refusal that applies, in the order 8, 2, 4, 5, then 6 of the first cell, 7,
+    /// 3, then 6 of the later cells, and then nothing is written. Refusal 8 is given unless there are as
+    /// many rows and as many answers as columns. Without cells the others but 6 are given all the same.
+    ///
+    /// ```
+    /// use vektrid::{Cells, Pair, Refusal, Shift};
+    ///
+    /// // The squares of two by two, row by row, and the visits of block 1 in them.
+    /// let (columns, rows) = ([0, 1, 0, 1], [0, 0, 1, 1]);
+    /// let cells = Cells { m: 2, a: 1, columns: &columns, rows: &rows, block: 1 };
+    /// let mut answers = [0; 4];
+    /// Pair::standard().overview(Shift::default(), 32, cells, &mut answers)?;
+    /// assert_eq!(answers, [6, 5, 4, 7]);
+    ///
+    /// let outside = Cells { columns: &[0, 1, 0, 2], ..cells };
+    /// let refused = Pair::standard().overview(Shift::default(), 32, outside, &mut answers);
+    /// assert_eq!((refused, answers), (Err(Refusal::Cell), [6, 5, 4, 7]));
+    /// # Ok::<(), Refusal>(())
+    /// ```
+    pub fn overview(
+        &self,
+        shift: Shift,
+        level: u32,
+        cells: Cells<'_>,
+        answers: &mut [u32],
+    ) -> Result<(), Refusal> {
+        overview_words(self.words(), shift, level, cells, answers)
     }
 }
 
@@ -62,4 +108,38 @@ pub fn query_words(words: &[u32], shift: Shift, level: u32, cell: Cell) -> Resul
         )
     });
     judged_net(number, m, a, j).map(|()| index)
+}
+
+/// [`Pair::overview`] for any number of words: refusal 1 comes before the others.
+pub fn overview_words(
+    words: &[u32],
+    shift: Shift,
+    level: u32,
+    cells: Cells<'_>,
+    answers: &mut [u32],
+) -> Result<(), Refusal> {
+    let Cells { m, a, columns, rows, block } = cells;
+    let mut j = 0;
+    // SAFETY: four lent slices with their lengths, of which the one that is written is lent to us
+    // alone, and a variable.
+    let number = library::call(|| unsafe {
+        raw::vektrid_overview(
+            words.as_ptr(),
+            words.len(),
+            shift.x,
+            shift.y,
+            level,
+            m,
+            a,
+            block,
+            columns.as_ptr(),
+            columns.len(),
+            rows.as_ptr(),
+            rows.len(),
+            answers.as_mut_ptr(),
+            answers.len(),
+            &mut j,
+        )
+    });
+    judged_net(number, m, a, j)
 }

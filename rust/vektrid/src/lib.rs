@@ -52,7 +52,7 @@ mod stage;
 mod unit;
 mod walk;
 
-pub use cells::{query_words, Cell};
+pub use cells::{overview_words, query_words, Cell, Cells};
 pub use library::ABI;
 pub use listing::{listing, Cursor, Listing};
 pub use pair::{check_words, standard_words, Pair};

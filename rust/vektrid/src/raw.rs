@@ -121,6 +121,25 @@ extern "C" {
         j: *mut u32,
     ) -> u32;
 
+    /// The indexes of a block that lie in many cells of one shape.
+    pub fn vektrid_overview(
+        words: *const u32,
+        count: usize,
+        shift_x: u32,
+        shift_y: u32,
+        level: u32,
+        m: u32,
+        a: u32,
+        block: u32,
+        columns: *const u32,
+        columns_count: usize,
+        rows: *const u32,
+        rows_count: usize,
+        answers: *mut u32,
+        answers_count: usize,
+        j: *mut u32,
+    ) -> u32;
+
     /// A word divided by 2^32.
     pub fn vektrid_double(word: u32) -> f64;
 

@@ -75,7 +75,7 @@ fn declared_in_rust() -> Vec<String> {
 #[test]
 fn declarations_are_those_of_the_header() {
     let (c, rust) = (declared_in_c(), declared_in_rust());
-    assert_eq!(c.len(), 22);
+    assert_eq!(c.len(), 23);
     assert_eq!(c[0], "vektrid_abi() -> u32");
     assert_eq!(c[3].split_once(',').unwrap().0, "vektrid_point(words: *const u32");
     assert_eq!(c, rust);

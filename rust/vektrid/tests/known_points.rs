@@ -1,8 +1,8 @@
 //! The known points of the requirements, and the wrong turns that they name.
 
 use vektrid::{
-    check_words, double, query_words, single, standard_point, Cell, Field, Pair, Point, Position,
-    Refusal, Region, Shift, Singles, SinglesVisit, Visit, Walk,
+    check_words, double, overview_words, query_words, single, standard_point, Cell, Cells, Field,
+    Pair, Point, Position, Refusal, Region, Shift, Singles, SinglesVisit, Visit, Walk,
 };
 
 const NO_SHIFT: Shift = Shift { x: 0, y: 0 };
@@ -65,6 +65,42 @@ fn cells_of_the_standard_pair() {
     assert_eq!(pair.query(shift, 2, CELL), Ok(0));
 }
 
+/// Block 0 in the shapes (4, 2) and (4, 3), row by row, as the drawings of the README have it.
+#[test]
+fn overviews_of_the_standard_pair() {
+    let drawn = [
+        (2, [0, 10, 5, 15, 12, 6, 9, 3, 4, 14, 1, 11, 8, 2, 13, 7]),
+        (3, [0, 12, 10, 6, 9, 5, 3, 15, 8, 4, 2, 14, 1, 13, 11, 7]),
+    ];
+    for (a, indexes) in drawn {
+        let columns: Vec<u32> = (0..16).map(|place| place % (1 << a)).collect();
+        let rows: Vec<u32> = (0..16).map(|place| place >> a).collect();
+        let cells = Cells { m: 4, a, columns: &columns, rows: &rows, block: 0 };
+        let mut answers = [0; 16];
+        assert_eq!(Pair::standard().overview(NO_SHIFT, 4, cells, &mut answers), Ok(()));
+        assert_eq!(answers, indexes);
+    }
+}
+
+/// Every cell of every shape up to m = 6, shifted and in other blocks than the first.
+#[test]
+fn overviews_are_queries() {
+    let (pair, shift) = (Pair::standard(), Shift { x: 0x1234_5678, y: 0x9ABC_DEF0 });
+    for m in 0..=6 {
+        for (a, block) in (0..=m).flat_map(|a| [(a, 0), (a, 5), (a, u32::MAX >> m)]) {
+            let columns: Vec<u32> = (0..1 << m).map(|place| place >> (m - a)).collect();
+            let rows: Vec<u32> = (0..1 << m).map(|place| place & ((1 << (m - a)) - 1)).collect();
+            let cells = Cells { m, a, columns: &columns, rows: &rows, block };
+            let mut answers = vec![0; 1 << m];
+            assert_eq!(pair.overview(shift, 6, cells, &mut answers), Ok(()));
+            for ((column, row), index) in columns.into_iter().zip(rows).zip(answers) {
+                let cell = Cell { m, a, column, row, block };
+                assert_eq!(pair.query(shift, 6, cell), Ok(index));
+            }
+        }
+    }
+}
+
 #[test]
 fn zero_pair() {
     let zero = [0; 64];
@@ -72,6 +108,10 @@ fn zero_pair() {
     for block in [0, 1, 77, u32::MAX] {
         let cell = Cell { m: 0, a: 0, column: 0, row: 0, block };
         assert_eq!(query_words(&zero, NO_SHIFT, 1, cell), Ok(block));
+        let cells = Cells { m: 0, a: 0, columns: &[0, 0], rows: &[0, 0], block };
+        let mut answers = [0; 2];
+        assert_eq!(overview_words(&zero, NO_SHIFT, 1, cells, &mut answers), Ok(()));
+        assert_eq!(answers, [block, block]);
     }
 }
 

@@ -185,6 +185,70 @@ fn refused_query_keeps_its_words() {
     assert_eq!(query(&zero, 2, [2, 1, 1, 0, 0]), [3, MARK, 1]);
 }
 
+/// The answer of an overview of the cells of the columns and rows given, and its words: the whole
+/// buffer around the answers, of which those from place 8 on are lent, and j.
+fn overview(
+    words: &[u32],
+    level: u32,
+    [m, a, block]: [u32; 3],
+    (columns, rows): (&[u32], &[u32]),
+    answers_count: usize,
+) -> (u32, [u32; 24], u32) {
+    let (mut answers, mut j) = ([MARK; 24], MARK);
+    let lent = &mut answers[8..8 + answers_count];
+    // SAFETY: four lent slices with their lengths, and a variable.
+    let answer = unsafe {
+        raw::vektrid_overview(
+            words.as_ptr(),
+            words.len(),
+            0,
+            0,
+            level,
+            m,
+            a,
+            block,
+            columns.as_ptr(),
+            columns.len(),
+            rows.as_ptr(),
+            rows.len(),
+            lent.as_mut_ptr(),
+            lent.len(),
+            &mut j,
+        )
+    };
+    (answer, answers, j)
+}
+
+#[test]
+fn refused_overview_keeps_its_words() {
+    let (zero, kept) = ([0; 64], [MARK; 24]);
+    let (inside, outside): (&[u32], &[u32]) = (&[0, 1, 1], &[0, 1, 2]);
+    let cells = (inside, inside);
+    assert_eq!(overview(&[0; 63], 2, [2, 1, 0], cells, 3), (1, kept, MARK));
+    assert_eq!(overview(&zero, 2, [2, 1, 0], cells, 4), (8, kept, MARK));
+    assert_eq!(overview(&zero, 2, [2, 1, 0], (inside, &[]), 3), (8, kept, MARK));
+    assert_eq!(overview(&zero, 33, [2, 1, 0], cells, 3), (2, kept, MARK));
+    assert_eq!(overview(&zero, 2, [3, 1, 0], cells, 3), (4, kept, MARK));
+    assert_eq!(overview(&zero, 2, [2, 3, 0], cells, 3), (5, kept, MARK));
+    assert_eq!(overview(&zero, 4, [4, 1, 1 << 28], cells, 3), (7, kept, MARK));
+    // The cells before the one that is refused are not written either.
+    let standard = *Pair::standard().words();
+    assert_eq!(overview(&standard, 2, [2, 1, 0], (inside, outside), 3), (6, kept, MARK));
+    assert_eq!(overview(&standard, 2, [2, 1, 0], (outside, inside), 3), (6, kept, MARK));
+    // 3 gives the least index and no answer.
+    assert_eq!(overview(&zero, 2, [2, 1, 0], cells, 3), (3, kept, 1));
+    assert_eq!(overview(&zero, 2, [2, 1, 0], (&[], &[]), 0), (3, kept, 1));
+}
+
+#[test]
+fn accepted_overview_writes_its_places_only() {
+    let pair = Pair::standard();
+    let (answer, answers, j) = overview(pair.words(), 2, [2, 1, 1], (&[0, 1, 0], &[0, 0, 1]), 3);
+    assert_eq!((answer, &answers[8..11], j), (0, &[6, 5, 4][..], MARK));
+    assert!(answers[..8].iter().chain(&answers[11..]).all(|&word| word == MARK));
+    assert_eq!(overview(pair.words(), 2, [2, 1, 1], (&[], &[]), 0), (0, [MARK; 24], MARK));
+}
+
 #[test]
 fn refused_position_keeps_its_words() {
     let (mut x, mut y) = (-77, -78);

@@ -7,12 +7,14 @@ use common::{
     RESERVED, WIDTH,
 };
 use vektrid::{
-    check_words, fill_words, judge, judge_link, point_singles_words, point_words, query_words,
-    standard_words, visits, Cell, Field, Pair, Refusal, Region, Shift, Stopped, Walk,
+    check_words, fill_words, judge, judge_link, overview_words, point_singles_words, point_words,
+    query_words, standard_words, visits, Cell, Cells, Field, Pair, Refusal, Region, Shift, Stopped,
+    Walk,
 };
 
 const NO_SHIFT: Shift = Shift { x: 0, y: 0 };
 const CELL: Cell = Cell { m: 2, a: 1, column: 1, row: 0, block: 0 };
+const CELLS: Cells = Cells { m: 2, a: 1, columns: &[1, 0, 1], rows: &[0, 0, 1], block: 0 };
 const REGION: Region = Region { left: -500, top: 0, width: 1000, height: 800 };
 
 fn twice() -> Pair {
@@ -23,6 +25,12 @@ fn twice() -> Pair {
 
 fn query(level: u32, cell: Cell) -> Result<u32, Refusal> {
     Pair::standard().query(NO_SHIFT, level, cell)
+}
+
+/// The overview with three answers.
+fn overview(level: u32, cells: Cells) -> Result<[u32; 3], Refusal> {
+    let mut answers = [0; 3];
+    Pair::standard().overview(NO_SHIFT, level, cells, &mut answers).map(|()| answers)
 }
 
 #[test]
@@ -41,6 +49,7 @@ fn one_for_63_words_in_every_call() {
         assert_eq!(walk.step_words(words, NO_SHIFT), Err(one));
         assert_eq!(walk.step_singles_words(words, NO_SHIFT), Err(one));
         assert_eq!(query_words(words, NO_SHIFT, 2, CELL), Err(one));
+        assert_eq!(overview_words(words, NO_SHIFT, 2, CELLS, &mut [0; 3]), Err(one));
     }
 }
 
@@ -53,6 +62,9 @@ fn one_comes_first() {
     assert_eq!(worst, Err(Refusal::WordCount));
     let cell = Cell { m: 33, a: 34, column: 1, row: 1, block: 1 };
     assert_eq!(query_words(&words, NO_SHIFT, 0, cell), Err(Refusal::WordCount));
+    let cells = Cells { m: 33, a: 34, columns: &[1], rows: &[1, 1], block: 1 };
+    let worst = overview_words(&words, NO_SHIFT, 0, cells, &mut [0; 3]);
+    assert_eq!(worst, Err(Refusal::WordCount));
 }
 
 #[test]
@@ -60,6 +72,7 @@ fn two_for_a_level_of_33() {
     for level in [0, 33, u32::MAX] {
         assert_eq!(Pair::standard().check(level), Err(Refusal::Level));
         assert_eq!(query(level, CELL), Err(Refusal::Level));
+        assert_eq!(overview(level, CELLS), Err(Refusal::Level));
         assert_eq!(judge(&example_with(LEVEL, level)), Err(Refusal::Level));
     }
 }
@@ -71,6 +84,7 @@ fn three_for_the_identity_twice() {
     assert_eq!(twice().check(2), Err(not_net));
     assert_eq!(twice().check(32), Err(not_net));
     assert_eq!(twice().query(NO_SHIFT, 2, CELL), Err(not_net));
+    assert_eq!(twice().overview(NO_SHIFT, 2, CELLS, &mut [0; 3]), Err(not_net));
 }
 
 #[test]
@@ -99,6 +113,61 @@ fn refusals_of_a_query_come_in_order() {
         let cell = Cell { m, a, column, row, block };
         let refusal = query_words(&[0; 64], NO_SHIFT, level, cell).unwrap_err();
         assert_eq!(refusal.number(), number);
+    }
+}
+
+#[test]
+fn four_to_seven_of_an_overview() {
+    assert_eq!(overview(2, CELLS), Ok([3, 0, 1]));
+    assert_eq!(overview(2, Cells { m: 3, ..CELLS }), Err(Refusal::Size));
+    assert_eq!(overview(2, Cells { a: 3, ..CELLS }), Err(Refusal::Shape));
+    for place in 0..3 {
+        let mut outside = [0; 3];
+        outside[place] = 2;
+        assert_eq!(overview(2, Cells { columns: &outside, ..CELLS }), Err(Refusal::Cell));
+        assert_eq!(overview(2, Cells { rows: &outside, ..CELLS }), Err(Refusal::Cell));
+    }
+    assert_eq!(overview(32, Cells { m: 4, block: 268_435_456, ..CELLS }), Err(Refusal::Block));
+    assert!(overview(32, Cells { m: 4, block: 268_435_455, ..CELLS }).is_ok());
+}
+
+#[test]
+fn eight_of_an_overview() {
+    let lengths = [(3, 2, 2), (2, 3, 2), (2, 2, 3), (1, 2, 3), (0, 0, 1), (0, 1, 0), (1, 0, 0)];
+    for (columns, rows, answers) in lengths {
+        let (columns, rows) = (&vec![0; columns], &vec![0; rows]);
+        let cells = Cells { columns, rows, ..CELLS };
+        let refused = Pair::standard().overview(NO_SHIFT, 2, cells, &mut vec![0; answers]);
+        assert_eq!(refused, Err(Refusal::BufferLengths));
+    }
+}
+
+/// With the zero pair every later refusal is due too. A cell outside the shape comes before the block
+/// where it is the first, and else behind refusal 3; without cells it is not given.
+#[test]
+fn refusals_of_an_overview_come_in_order() {
+    let most = u32::MAX;
+    let (bad_first, bad_later, good): (&[u32], &[u32], &[u32]) = (&[most, 0], &[0, most], &[0, 0]);
+    let steps = [
+        (33, [most; 3], bad_first, 1, 8),
+        (33, [most; 3], bad_first, 2, 2),
+        (2, [most; 3], bad_first, 2, 4),
+        (2, [2, most, most], bad_first, 2, 5),
+        (2, [2, 1, most], bad_first, 2, 6),
+        (2, [2, 1, most], bad_later, 2, 7),
+        (2, [2, 1, 0], bad_first, 2, 6),
+        (2, [2, 1, 0], bad_later, 2, 3),
+        (2, [2, 1, 0], good, 2, 3),
+        (0, [2, 1, most], &[], 0, 2),
+        (2, [3, most, most], &[], 0, 4),
+        (2, [2, 3, most], &[], 0, 5),
+        (2, [2, 1, most], &[], 0, 7),
+        (2, [2, 1, 0], &[], 0, 3),
+    ];
+    for (level, [m, a, block], columns, answers, number) in steps {
+        let cells = Cells { m, a, columns, rows: columns, block };
+        let refused = overview_words(&[0; 64], NO_SHIFT, level, cells, &mut vec![0; answers]);
+        assert_eq!(refused.unwrap_err().number(), number);
     }
 }
 
