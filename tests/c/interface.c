@@ -351,6 +351,117 @@ static void all_small_cells(void) {
         }
 }
 
+/* ---- many cells at once: the answers stand in the middle of a longer buffer, whose other words must stay */
+
+enum { BEFORE = 4, ROOM = 80 };
+
+static int kept_around(const uint32_t *answers, size_t count) {
+    return all_kept(answers, BEFORE) && all_kept(answers + BEFORE + count, ROOM - BEFORE - count);
+}
+
+/* Block 0 of the shape (4, 2) row by row, as the README draws it; cells that repeat; one buffer for columns and rows; one cell; and none. */
+static void known_overviews(void) {
+    static const uint32_t drawn[16] = {0, 10, 5, 15, 12, 6, 9, 3, 4, 14, 1, 11, 8, 2, 13, 7};
+    static const uint32_t diagonal[5] = {0, 1, 2, 3, 1}, there[5] = {0, 6, 1, 7, 6};
+    uint32_t columns[16], rows[16], answers[ROOM], j = KEPT;
+    for (uint32_t i = 0; i < 16; i++) {
+        columns[i] = i % 4;
+        rows[i] = i / 4;
+    }
+    keep(answers, ROOM);
+    CHECK(vektrid_overview(standard, 64, 0, 0, 4, 4, 2, 0, columns, 16, rows, 16, answers + BEFORE, 16, &j) == 0);
+    CHECK(memcmp(answers + BEFORE, drawn, sizeof drawn) == 0 && kept_around(answers, 16));
+    keep(answers, ROOM);
+    CHECK(vektrid_overview(standard, 64, 0, 0, 4, 4, 2, 0, diagonal, 5, diagonal, 5, answers + BEFORE, 5, &j) == 0);
+    CHECK(memcmp(answers + BEFORE, there, sizeof there) == 0 && kept_around(answers, 5));
+    keep(answers, ROOM);
+    CHECK(vektrid_overview(zeros, 64, 0, 0, 1, 0, 0, LAST, columns, 1, rows, 1, answers + BEFORE, 1, &j) == 0);
+    CHECK(answers[BEFORE] == LAST && kept_around(answers, 1));
+    keep(answers, ROOM);
+    CHECK(vektrid_overview(standard, 64, 0, 0, 32, 32, 9, 0, columns, 0, rows, 0, answers + BEFORE, 0, &j) == 0);
+    CHECK(kept_around(answers, 0) && j == KEPT);
+}
+
+/* Every cell of one shape and block: each answer lies in the block and in its cell, and columns and rows are only read. */
+static void overview(uint32_t m, uint32_t a, uint32_t block, uint32_t shift_x, uint32_t shift_y) {
+    uint32_t columns[64], rows[64], answers[ROOM], j = KEPT, count = 1u << m;
+    for (uint32_t i = 0; i < count; i++) {
+        columns[i] = i >> (m - a);
+        rows[i] = i & ((1u << (m - a)) - 1);
+    }
+    keep(answers, ROOM);
+    CHECK(vektrid_overview(standard, 64, shift_x, shift_y, 6, m, a, block, columns, count, rows, count, answers + BEFORE, count, &j) == 0);
+    for (uint32_t i = 0; i < count; i++) {
+        uint32_t index = answers[BEFORE + i];
+        CHECK(columns[i] == i >> (m - a) && rows[i] == (i & ((1u << (m - a)) - 1)));
+        CHECK(index >> m == block);
+        CHECK(top(point_of(standard, shift_x, index), a) == columns[i]);
+        CHECK(top(point_of(standard + 32, shift_y, index), m - a) == rows[i]);
+    }
+    CHECK(kept_around(answers, count) && j == KEPT);
+}
+
+static void all_small_overviews(void) {
+    for (uint32_t m = 0; m <= 6; m++)
+        for (uint32_t a = 0; a <= m; a++) {
+            overview(m, a, 0, 0, 0);
+            overview(m, a, 5, 0x12345678u, 0x9ABCDEF0u);
+            overview(m, a, LAST >> m, LAST, 1);
+        }
+}
+
+static void refused_overviews(void) {
+    static const uint32_t columns[5] = {0, 3, 1, 0, 2}, rows[5] = {0, 3, 2, 1, 0}, far[2] = {LAST, LAST};
+    uint32_t answers[ROOM], j = KEPT, *to = answers + BEFORE;
+    keep(answers, ROOM);
+    REFUSES(8, vektrid_overview(standard, 64, 0, 0, 32, 4, 2, 0, columns, 4, rows, 5, to, 5, &j));
+    REFUSES(8, vektrid_overview(standard, 64, 0, 0, 32, 4, 2, 0, columns, 5, rows, 4, to, 5, &j));
+    REFUSES(8, vektrid_overview(standard, 64, 0, 0, 32, 4, 2, 0, columns, 5, rows, 5, to, 4, &j));
+    REFUSES(8, vektrid_overview(standard, 64, 0, 0, 32, 4, 2, 0, columns, 3, rows, 4, to, 5, &j));
+    REFUSES(8, vektrid_overview(standard, 64, 0, 0, 32, 4, 2, 0, columns, 0, rows, 0, to, 1, &j));
+    REFUSES(2, vektrid_overview(standard, 64, 0, 0, 33, 4, 2, 0, columns, 5, rows, 5, to, 5, &j));
+    REFUSES(4, vektrid_overview(standard, 64, 0, 0, 3, 4, 2, 0, columns, 5, rows, 5, to, 5, &j));
+    REFUSES(5, vektrid_overview(standard, 64, 0, 0, 32, 4, 5, 0, columns, 5, rows, 5, to, 5, &j));
+    REFUSES(7, vektrid_overview(standard, 64, 0, 0, 32, 4, 2, 268435456u, columns, 5, rows, 5, to, 5, &j));
+    /* without cells */
+    REFUSES(2, vektrid_overview(standard, 64, 0, 0, 0, 4, 2, 0, columns, 0, rows, 0, to, 0, &j));
+    REFUSES(4, vektrid_overview(standard, 64, 0, 0, 3, 4, 2, 0, columns, 0, rows, 0, to, 0, &j));
+    REFUSES(5, vektrid_overview(standard, 64, 0, 0, 32, 4, 5, 0, columns, 0, rows, 0, to, 0, &j));
+    REFUSES(7, vektrid_overview(identities, 64, 0, 0, 32, 4, 2, LAST, columns, 0, rows, 0, to, 0, &j));
+    /* from here each line makes one thing more wrong, and the first in the call's order is given */
+    REFUSES(7, vektrid_overview(identities, 64, 0, 0, 32, 4, 2, LAST, columns, 2, rows, 2, to, 2, &j));
+    REFUSES(6, vektrid_overview(identities, 64, 0, 0, 32, 4, 2, LAST, far, 2, far, 2, to, 2, &j));
+    REFUSES(5, vektrid_overview(identities, 64, 0, 0, 32, 4, 5, LAST, far, 2, far, 2, to, 2, &j));
+    REFUSES(4, vektrid_overview(identities, 64, 0, 0, 3, 4, 5, LAST, far, 2, far, 2, to, 2, &j));
+    REFUSES(2, vektrid_overview(identities, 64, 0, 0, 0, LAST, LAST, LAST, far, 2, far, 2, to, 2, &j));
+    REFUSES(8, vektrid_overview(identities, 64, 0, 0, 0, LAST, LAST, LAST, far, 2, far, 2, to, 1, &j));
+    REFUSES(1, vektrid_overview(identities, 63, 0, 0, 0, LAST, LAST, LAST, far, 2, far, 2, to, 1, &j));
+    CHECK(all_kept(answers, ROOM) && j == KEPT);
+    REFUSES(3, vektrid_overview(identities, 64, 8, 9, 32, 2, 1, 0, columns, 1, rows, 1, to, 1, &j));
+    CHECK(all_kept(answers, ROOM) && j == 2);
+    j = KEPT;
+    REFUSES(3, vektrid_overview(identities, 64, 8, 9, 32, 2, 1, 0, columns, 0, rows, 0, to, 0, &j));
+    CHECK(all_kept(answers, ROOM) && j == 2);
+}
+
+/* One cell outside the shape, at each place: the first cell is judged before the block and the pair, the others after them. */
+static void overviews_with_a_cell_outside(void) {
+    static const uint32_t inside[6] = {0, 3, 1, 0, 2, 3};
+    for (uint32_t place = 0; place < 6; place++) {
+        uint32_t outside[6], answers[ROOM], j = KEPT, *to = answers + BEFORE;
+        keep(answers, ROOM);
+        memcpy(outside, inside, sizeof outside);
+        outside[place] = 4;
+        REFUSES(6, vektrid_overview(standard, 64, 0, 0, 32, 4, 2, 0, outside, 6, inside, 6, to, 6, &j));
+        REFUSES(6, vektrid_overview(standard, 64, 0, 0, 32, 4, 2, 0, inside, 6, outside, 6, to, 6, &j));
+        REFUSES(place == 0 ? 6 : 7, vektrid_overview(standard, 64, 0, 0, 32, 4, 2, LAST, outside, 6, inside, 6, to, 6, &j));
+        REFUSES(place == 0 ? 6 : 7, vektrid_overview(identities, 64, 0, 0, 32, 4, 2, LAST, inside, 6, outside, 6, to, 6, &j));
+        CHECK(j == KEPT);
+        REFUSES(place == 0 ? 6 : 3, vektrid_overview(identities, 64, 0, 0, 32, 4, 2, 0, outside, 6, inside, 6, to, 6, &j));
+        CHECK(all_kept(answers, ROOM) && j == (place == 0 ? KEPT : 4));
+    }
+}
+
 /* ---- unit numbers and the stage */
 
 static void unit_numbers(void) {
@@ -890,6 +1001,10 @@ int main(void) {
     known_queries();
     refused_queries();
     all_small_cells();
+    known_overviews();
+    all_small_overviews();
+    refused_overviews();
+    overviews_with_a_cell_outside();
     unit_numbers();
     refused_positions();
     known_positions();
