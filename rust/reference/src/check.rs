@@ -39,7 +39,7 @@ pub(crate) fn judge_level(level: u32) -> Result<(), Refusal> {
 }
 
 /// Nothing if the determinant of (m, a) is odd; otherwise j.
-fn smallest_shared_index(pair: &Pair, m: u32, a: u32) -> Option<u32> {
+pub(crate) fn smallest_shared_index(pair: &Pair, m: u32, a: u32) -> Option<u32> {
     reduce(&mut shape_equations(pair, m, a))
 }
 

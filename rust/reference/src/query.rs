@@ -40,6 +40,15 @@ pub fn query(pair: &Pair, shift: Shift, level: u32, query: Query) -> Result<u32,
 /// Refusals 2, 4, 5, 6 and 7. The bounds reach 2^32, hence 64 bits.
 fn judge_query(level: u32, query: Query) -> Result<(), Refusal> {
     let Query { m, a, column, row, block } = query;
+    judge_shape(level, m, a)?;
+    if u64::from(column) >= 1u64 << a || u64::from(row) >= 1u64 << (m - a) {
+        return Err(Refusal::Cell);
+    }
+    judge_block(m, block)
+}
+
+/// Refusals 2, 4 and 5, which are the same for every cell of a shape.
+pub(crate) fn judge_shape(level: u32, m: u32, a: u32) -> Result<(), Refusal> {
     judge_level(level)?;
     if m > level {
         return Err(Refusal::SizeAboveLevel);
@@ -47,9 +56,11 @@ fn judge_query(level: u32, query: Query) -> Result<(), Refusal> {
     if a > m {
         return Err(Refusal::ColumnBitsAboveSize);
     }
-    if u64::from(column) >= 1u64 << a || u64::from(row) >= 1u64 << (m - a) {
-        return Err(Refusal::Cell);
-    }
+    Ok(())
+}
+
+/// Refusal 7, for an m that is judged already. This bound too reaches 2^32.
+pub(crate) fn judge_block(m: u32, block: u32) -> Result<(), Refusal> {
     if u64::from(block) >= 1u64 << (32 - m) {
         return Err(Refusal::Block);
     }

@@ -21,7 +21,7 @@ pub enum Refusal {
     Cell,
     /// 7: the block lies beyond the last index.
     Block,
-    /// 8: the two buffers differ in length.
+    /// 8: the lent buffers differ in length.
     BufferLengths,
     /// 9: start + count is above 2^32.
     Count,
