@@ -12,6 +12,7 @@ mod files;
 mod fills;
 mod limits;
 mod openings;
+mod overviews;
 mod pairs;
 mod pieces;
 mod points;
@@ -73,6 +74,7 @@ fn all(seed: u64) -> Result<(), String> {
     compare::<openings::Opening>(seed)?;
     compare::<walks::Steps>(seed)?;
     compare::<queries::Query>(seed)?;
+    compare::<overviews::Overview>(seed)?;
     compare::<word_counts::WordCount>(seed)?;
     compare::<units::Unit>(seed)?;
     compare::<positions::PositionIn>(seed)?;

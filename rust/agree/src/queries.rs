@@ -12,7 +12,7 @@ use crate::simpler::{simpler_pair, simpler_shift, simpler_word};
 use crate::{same, text};
 
 /// The shapes (m, a) with 0 ≤ a ≤ m ≤ 32.
-const SHAPES: u64 = 33 * 34 / 2;
+pub const SHAPES: u64 = 33 * 34 / 2;
 
 /// Four columns, rows, blocks and levels of each shape.
 const CHOICES: u64 = 4 * 4 * 4 * 4;
@@ -81,7 +81,7 @@ impl Case for Query {
 }
 
 /// The shapes by their number: m rising, and then a.
-fn shape(mut number: u64) -> (u32, u32) {
+pub fn shape(mut number: u64) -> (u32, u32) {
     let mut m = 0;
     while number > m {
         number -= m + 1;
@@ -101,7 +101,7 @@ fn at_limits(random: &mut Splitmix, (m, a): (u32, u32), choice: u64) -> (u32, Ce
 }
 
 /// Wild numbers, or most calls would be refused under 2 and 4, some in order.
-fn anything(random: &mut Splitmix) -> (u32, Cell) {
+pub fn anything(random: &mut Splitmix) -> (u32, Cell) {
     let level = if random.one_in(4) { wild(random) } else { 32 };
     let m = if random.one_in(4) { wild(random) } else { random.below(33) };
     let a = if random.one_in(4) { wild(random) } else { random.below(m.saturating_add(1)) };

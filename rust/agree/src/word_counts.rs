@@ -3,7 +3,7 @@
 
 use reference::pair::Pair;
 use reference::trial::splitmix::Splitmix;
-use vektrid::{Cell, Refusal, Shift, Walk};
+use vektrid::{Cell, Cells, Refusal, Shift, Walk};
 
 use crate::case::Case;
 use crate::limits::{wild, wild_count};
@@ -27,9 +27,10 @@ pub struct WordCount {
 /// The answers of the calls in turn, and the buffers of those that write words.
 #[derive(Debug, PartialEq)]
 pub struct Answer {
-    calls: [Result<(), Refusal>; 8],
+    calls: [Result<(), Refusal>; 9],
     standard: Vec<u32>,
     filled: ([u32; 3], [u32; 4]),
+    overviewed: [u32; 2],
 }
 
 impl Case for WordCount {
@@ -52,14 +53,17 @@ impl Case for WordCount {
     fn expected(&self) -> Answer {
         let refused = Pair::from_words(&self.words()).map(|_| ()).map_err(same::refusal);
         let standard = vec![MARK; self.length];
-        Answer { calls: [refused; 8], standard, filled: ([MARK; 3], [MARK; 4]) }
+        let (filled, overviewed) = (([MARK; 3], [MARK; 4]), [MARK; 2]);
+        Answer { calls: [refused; 9], standard, filled, overviewed }
     }
 
     fn given(&self) -> Answer {
         let WordCount { shift, level, walk, cell, .. } = *self;
         let words = self.words();
         let mut standard = vec![MARK; self.length];
-        let mut filled = ([MARK; 3], [MARK; 4]);
+        let (mut filled, mut overviewed) = (([MARK; 3], [MARK; 4]), [MARK; 2]);
+        let Cell { m, a, column, row, block } = cell;
+        let cells = Cells { m, a, columns: &[column], rows: &[row, row, row], block };
         let calls = [
             vektrid::standard_words(&mut standard),
             vektrid::check_words(&words, level),
@@ -69,8 +73,9 @@ impl Case for WordCount {
             walk.step_words(&words, shift).map(|_| ()),
             walk.step_singles_words(&words, shift).map(|_| ()),
             vektrid::query_words(&words, shift, level, cell).map(|_| ()),
+            vektrid::overview_words(&words, shift, level, cells, &mut overviewed),
         ];
-        Answer { calls, standard, filled }
+        Answer { calls, standard, filled, overviewed }
     }
 
     fn outcome(answer: &Answer) -> u32 {
@@ -84,7 +89,7 @@ impl Case for WordCount {
 
     fn test(&self) -> String {
         let WordCount { length, shift, level, walk, cell } = self;
-        let index = walk.next;
+        let (index, Cell { m, a, column, row, block }) = (walk.next, cell);
         let refused = "Some(Refusal::WordCount)";
         format!(
             "let mut words = [{MARK}; {length}];\n\
@@ -99,7 +104,12 @@ impl Case for WordCount {
              assert_eq!({walk:?}.step_singles_words(&words, shift).err(), {refused});\n\
              let answer = query_words(&words, shift, {level}, {cell:?});\n\
              assert_eq!(answer.err(), {refused});\n\
-             assert_eq!((words, xs, ys), ([{MARK}; {length}], [{MARK}; 3], [{MARK}; 4]));"
+             let (columns, rows, mut answers) = (&[{column}], &[{row}; 3], [{MARK}; 2]);\n\
+             let cells = Cells {{ m: {m}, a: {a}, columns, rows, block: {block} }};\n\
+             let answer = overview_words(&words, shift, {level}, cells, &mut answers);\n\
+             assert_eq!(answer.err(), {refused});\n\
+             assert_eq!((words, xs, ys), ([{MARK}; {length}], [{MARK}; 3], [{MARK}; 4]));\n\
+             assert_eq!(answers, [{MARK}; 2]);"
         )
     }
 }
