@@ -142,31 +142,56 @@ class RefusalTable(unittest.TestCase):
         self.refused(vektrid.Level, 2, [33], lambda: STANDARD.check(33))
         self.refused(vektrid.Level, 2, [0], lambda: STANDARD.check(0))
         self.refused(vektrid.Level, 2, [33], lambda: STANDARD.query(33, 2, 1, 1, 0, 0))
+        self.refused(vektrid.Level, 2, [33], lambda: STANDARD.overview(33, 2, 1, [1], [0]))
         self.refused(vektrid.Level, 2, [33], lambda: vektrid.judge(head(1, 33) + record(0)))
 
     def test_3_not_net(self):
         refusal = self.refused(vektrid.NotNet, 3, ['(2, 1)', 'j = 2'], lambda: IDENTITIES.check(2))
         self.assertEqual((refusal.m, refusal.a, refusal.j), (2, 1, 2))
-        refusal = self.refused(vektrid.NotNet, 3, ['(2, 1)', 'j = 2'], lambda: IDENTITIES.query(32, 2, 1, 1, 0, 0))
-        self.assertEqual((refusal.m, refusal.a, refusal.j), (2, 1, 2))
+        for call in (lambda: IDENTITIES.query(32, 2, 1, 1, 0, 0), lambda: IDENTITIES.overview(32, 2, 1, [1], [0]),
+                     lambda: IDENTITIES.overview(32, 2, 1, [], [])):
+            refusal = self.refused(vektrid.NotNet, 3, ['(2, 1)', 'j = 2'], call)
+            self.assertEqual((refusal.m, refusal.a, refusal.j), (2, 1, 2))
 
     def test_4_size(self):
         self.refused(vektrid.Size, 4, ['m = 3', 'level = 2'], lambda: STANDARD.query(2, 3, 1, 0, 0, 0))
+        self.refused(vektrid.Size, 4, ['m = 3', 'level = 2'], lambda: STANDARD.overview(2, 3, 1, [0], [0]))
 
     def test_5_shape(self):
         self.refused(vektrid.Shape, 5, ['m = 2', 'a = 3'], lambda: STANDARD.query(32, 2, 3, 0, 0, 0))
+        self.refused(vektrid.Shape, 5, ['m = 2', 'a = 3'], lambda: STANDARD.overview(32, 2, 3, [0], [0]))
 
     def test_6_cell(self):
         self.refused(vektrid.Cell, 6, ['(2, 1)', 'column = 2'], lambda: STANDARD.query(32, 2, 1, 2, 0, 0))
-        self.refused(vektrid.Cell, 6, ['(2, 1)', 'row = 2'], lambda: STANDARD.query(32, 2, 1, 0, 2, 0))
+        refusal = self.refused(vektrid.Cell, 6, ['(2, 1)', 'row = 2'], lambda: STANDARD.query(32, 2, 1, 0, 2, 0))
+        self.assertIsNone(refusal.place)
+
+    def test_6_cell_of_an_overview(self):
+        inside = [0, 1, 1, 0, 1]
+        for place in range(5):
+            outside = inside[:place] + [7] + inside[place + 1:]
+            for name, columns, rows in (('column', outside, inside), ('row', inside, outside), ('row', inside, array.array('I', outside))):
+                shown = [f'at place {place}', '(2, 1)', '2^1 columns and 2^1 rows', f'{name} = 7']
+                refusal = self.refused(vektrid.Cell, 6, shown, lambda: STANDARD.overview(32, 2, 1, columns, rows))
+                self.assertEqual(refusal.place, place)
+        refusal = self.refused(vektrid.Cell, 6, ['at place 1'], lambda: STANDARD.overview(32, 2, 1, [0, 1, 7], [0, 7, 0]))  # the earlier of the two
+        self.assertEqual(refusal.place, 1)
 
     def test_7_block(self):
         self.refused(vektrid.Block, 7, ['2^4', '2^28', 268435456], lambda: STANDARD.query(32, 4, 2, 0, 0, 268435456))
+        self.refused(vektrid.Block, 7, ['2^4', '2^28', 268435456], lambda: STANDARD.overview(32, 4, 2, [0], [0], 268435456))
 
     def test_8_buffer_lengths(self):
         xs, ys = array.array('I', 4 * [7]), array.array('I', 5 * [7])
         self.refused(vektrid.BufferLengths, 8, [4, 5], lambda: STANDARD.fill(0, (xs, ys)))
         self.assertEqual((list(xs), list(ys)), (4 * [7], 5 * [7]))
+
+    def test_8_buffer_lengths_of_an_overview(self):
+        for columns, rows in ((4 * [0], 5 * [0]), (array.array('I', 4 * [0]), array.array('I', 5 * [0])), (range(4), iter(5 * [0]))):
+            shown = ['columns has 4 words', 'rows has 5']
+            self.refused(vektrid.BufferLengths, 8, shown, lambda: STANDARD.overview(32, 4, 2, columns, rows))
+        self.refused(vektrid.BufferLengths, 8, [0, 1], lambda: STANDARD.overview(32, 4, 2, [], [0]))
+        self.refused(vektrid.BufferLengths, 8, [1, 0], lambda: STANDARD.overview(32, 4, 2, [0], []))
 
     def test_9_index_range(self):
         xs, ys = array.array('I', [7, 7]), array.array('I', [7, 7])
@@ -266,6 +291,20 @@ class RefusalOrder(unittest.TestCase):
                 IDENTITIES.query(*given)
             self.assertEqual(caught.exception.number, number)
 
+    def test_overview(self):
+        # from the last test to the first, as above; a cell outside comes before the block only where it is the first
+        far, later = [4, 0], [0, 4]
+        for number, given in [(3, (32, 4, 2, [0, 0], [0, 0], 0)), (3, (32, 4, 2, later, [0, 0], 0)), (7, (32, 4, 2, later, later, 2**28)),
+                              (6, (32, 4, 2, far, [0, 0], 2**28)), (5, (32, 4, 5, far, far, 2**28)), (4, (3, 4, 5, far, far, 2**28)),
+                              (2, (0, 4, 5, far, far, 2**28)), (8, (0, 4, 5, far, [4], 2**28)),
+                              (3, (32, 4, 2, [], [], 0)), (7, (32, 4, 2, [], [], 2**28)), (5, (32, 4, 5, [], [], 2**28)),
+                              (4, (3, 4, 5, [], [], 2**28)), (2, (0, 4, 5, [], [], 2**28))]:
+            with self.assertRaises(vektrid.Refusal) as caught:
+                IDENTITIES.overview(*given)
+            self.assertEqual(caught.exception.number, number)
+        with self.assertRaises(vektrid.Cell):
+            STANDARD.overview(32, 4, 2, later, [0, 0])
+
     def test_check_and_fill(self):
         with self.assertRaises(vektrid.Level):
             IDENTITIES.check(33)
@@ -308,6 +347,12 @@ class KnownPoints(unittest.TestCase):
         self.assertEqual(STANDARD.query(32, 2, 1, 1, 0, 0, shift=(0x80000000, 0)), 0)
         for block in (0, 5, LAST):
             self.assertEqual(STANDARD.query(1, 0, 0, 0, 0, block), block)
+
+    def test_overviews(self):
+        # block 0 row by row, as the README draws it
+        for a, drawn in ((2, [0, 10, 5, 15, 12, 6, 9, 3, 4, 14, 1, 11, 8, 2, 13, 7]), (3, [0, 12, 10, 6, 9, 5, 3, 15, 8, 4, 2, 14, 1, 13, 11, 7])):
+            columns, rows = [place % 2**a for place in range(16)], [place >> a for place in range(16)]
+            self.assertEqual(STANDARD.overview(4, 4, a, columns, rows), drawn)
 
     def test_all_zero_pair(self):
         with self.assertRaises(vektrid.NotNet) as caught:
@@ -590,6 +635,103 @@ class Queries(unittest.TestCase):
         self.assertTrue(10 < passed < 140, passed)  # both answers have been seen
 
 
+class Overviews(unittest.TestCase):
+
+    BUFFERS = [lambda words: array.array('I', words), lambda words: (ctypes.c_uint32 * len(words))(*words),
+               lambda words: memoryview(array.array('I', words)), lambda words: memoryview(array.array('I', words).tobytes()).cast('I')]
+    LISTS = [list, tuple, iter, lambda words: (word for word in words)]
+
+    def cells(self, m, a):
+        """The columns and the rows of all cells of a shape."""
+        both = [(column, row) for column in range(2**a) for row in range(2**(m - a))]
+        return [column for column, _ in both], [row for _, row in both]
+
+    def test_single_queries(self):
+        for pair in (STANDARD, SWAPPED):
+            for m in range(6):
+                for a in range(m + 1):
+                    columns, rows = self.cells(m, a)
+                    for block, shift in ((0, SHIFTS[0]), (5, SHIFTS[2]), (2**(32 - m) - 1, SHIFTS[3])):
+                        single = [pair.query(32, m, a, *cell, block, shift) for cell in zip(columns, rows)]
+                        self.assertEqual(pair.overview(32, m, a, columns, rows, block, shift), single)
+                        self.assertEqual(pair.overview(m or 1, m, a, columns=columns, rows=rows, shift=shift, block=block), single)
+                        self.assertEqual(sorted(single), list(range(block << m, (block + 1) << m)))
+
+    def test_large_shapes(self):
+        chosen = random.Random(6)
+        for m in (17, 31, 32):
+            for a in (0, 1, m // 2, m):
+                columns, rows = ([chosen.randrange(2**bits) for _ in range(300)] for bits in (a, m - a))
+                block = chosen.randrange(2**(32 - m))
+                indexes = STANDARD.overview(32, m, a, columns, rows, block, SHIFTS[2])
+                self.assertEqual({index >> m for index in indexes}, {block})
+                points = [point_of(STANDARD.words, index, SHIFTS[2]) for index in indexes]
+                self.assertEqual([cell_of(point, m, a) for point in points], list(zip(columns, rows)))
+
+    def test_kinds(self):
+        columns, rows = self.cells(4, 2)
+        expected = STANDARD.overview(32, 4, 2, columns, rows, 7)
+        for make_columns in self.BUFFERS + self.LISTS:
+            for make_rows in self.BUFFERS + self.LISTS:
+                given = STANDARD.overview(32, 4, 2, make_columns(columns), make_rows(rows), 7)
+                self.assertEqual(list(given), expected)
+                self.assertIs(type(given), list if make_columns in self.LISTS and make_rows in self.LISTS else array.array)
+        self.assertEqual(STANDARD.overview(32, 4, 2, array.array('I', columns), array.array('I', rows), 7), array.array('I', expected))
+        self.assertEqual(STANDARD.overview(32, 4, 2, range(4), 4 * (1,)), [STANDARD.query(32, 4, 2, column, 1, 0) for column in range(4)])
+
+    def test_cells_more_than_once(self):
+        self.assertEqual(STANDARD.overview(32, 4, 2, [3, 3, 0, 3], [1, 1, 0, 1]), [3, 3, 0, 3])
+        diagonal = array.array('I', range(4))
+        self.assertEqual(list(STANDARD.overview(32, 4, 2, diagonal, diagonal)), [0, 6, 1, 7])
+
+    def test_no_cells(self):
+        for make in self.BUFFERS[:3] + self.LISTS:  # an empty view of bytes cannot be cast
+            given = STANDARD.overview(32, 4, 2, make([]), make([]))
+            self.assertEqual((list(given), type(given)), ([], list if make in self.LISTS else array.array))
+
+    def test_input_is_not_changed(self):
+        columns, rows = array.array('I', [3, 1]), [1, 0]
+        given = STANDARD.overview(32, 4, 2, columns, rows)
+        self.assertRaises(vektrid.Cell, STANDARD.overview, 32, 4, 2, columns, [1, 4])
+        self.assertEqual((list(columns), rows, list(given)), ([3, 1], [1, 0], [3, 10]))
+        columns.append(7)  # nothing holds the arrays any longer
+        given.append(7)
+        self.assertEqual((list(columns), list(given)), ([3, 1, 7], [3, 10, 7]))
+
+    def test_parts_of_a_buffer(self):
+        words = memoryview(array.array('I', [3, 1, 0, 0, 2, 3]))  # columns and rows in turn
+        self.assertEqual(list(STANDARD.overview(32, 4, 2, words[::2], words[1::2])), [3, 0, STANDARD.query(32, 4, 2, 2, 3, 0)])
+        self.assertEqual(list(STANDARD.overview(32, 4, 2, words[::-2], words[-2::-2])), STANDARD.overview(32, 4, 2, [3, 0, 1], [2, 0, 3]))
+        held = bytearray(1) + words.tobytes()
+        self.assertEqual(STANDARD.overview(32, 4, 2, memoryview(held)[1:].cast('I'), [0] * 6), STANDARD.overview(32, 4, 2, words, [0] * 6))
+
+    def refused(self, error, message, wrong):
+        for place in range(2):
+            with self.assertRaisesRegex(error, message) as caught:
+                STANDARD.overview(32, 4, 2, *((wrong, 4 * [0]) if place == 0 else (4 * [0], wrong)))
+            self.assertNotIsInstance(caught.exception, vektrid.Refusal)
+            self.assertIn(('columns', 'rows')[place], str(caught.exception))
+
+    def test_no_words(self):
+        for code in 'bBhHifdqQ':
+            self.refused(TypeError, f'items of type {code}, not 32-bit unsigned', array.array(code, 4 * [0]))
+        for kind in (ctypes.c_int32, ctypes.c_uint64, ctypes.c_uint32.__ctype_be__):
+            if kind is not ctypes.c_uint32:
+                self.refused(TypeError, 'not 32-bit unsigned', (kind * 4)())
+        for wrong in (bytes(16), bytearray(16), memoryview(bytes(16))):
+            self.refused(TypeError, 'items of type B, not 32-bit unsigned', wrong)
+        self.refused(TypeError, 'not one-dimensional', memoryview(bytearray(16)).cast('I', (2, 2)))
+        self.refused(TypeError, 'not one-dimensional', ctypes.c_uint32())
+
+    def test_no_list(self):
+        for wrong in (None, 4, 4.5, STANDARD):
+            self.refused(TypeError, f'is a {type(wrong).__name__}; a list of whole numbers or a buffer .* is needed', wrong)
+        self.refused(TypeError, r"\[0\] = 'f' is no whole number", 'four')
+        self.refused(TypeError, r'\[2\] = 0.0 is no whole number', [0, 0, 0.0, 0])
+        self.refused(ValueError, r'\[3\] = 4294967296 does not fit', (0, 0, 0, 2**32))
+        self.refused(ValueError, r'\[1\] = -1 does not fit', range(0, -4, -1))
+
+
 # ---- unit numbers and positions
 
 
@@ -848,6 +990,11 @@ class Arguments(unittest.TestCase):
              ('width', lambda value: vektrid.Region(0, 0, value, 1)), ('height', lambda value: vektrid.Region(0, 0, 1, value)),
              ('room', lambda value: vektrid.listing_pieces(EXAMPLE, value)), ('room', lambda value: vektrid.sheet_pieces(EXAMPLE, value))]
     WORDS += [(name, lambda value, name=name: STANDARD.query(**{**Arguments.QUERY, name: value})) for name in QUERY]
+    WORDS += [(name, lambda value, name=name: STANDARD.overview(columns=[1], rows=[0], **{**dict(level=32, m=2, a=1, block=0), name: value}))
+              for name in ('level', 'm', 'a', 'block')]
+    WORDS += [('columns[1]', lambda value: STANDARD.overview(32, 2, 1, [0, value], [0, 0])),
+              ('rows[0]', lambda value: STANDARD.overview(32, 2, 1, [0, 0], [value, 0])),
+              ('shift y', lambda value: STANDARD.overview(32, 2, 1, [0], [0], shift=(0, value)))]
     EDGES = [('left', lambda value: vektrid.Region(value, 0, 1, 1)), ('top', lambda value: vektrid.Region(0, value, 1, 1))]
     COUNTS = [('count', lambda value: STANDARD.fill(0, value)), ('count', lambda value: STANDARD.walk(0, value)),
               ('count', lambda value: STANDARD.walk_singles(0, value))]
@@ -935,6 +1082,35 @@ class Numpy(unittest.TestCase):
         self.assertRaisesRegex(ValueError, 'overlap', STANDARD.fill, 0, (words[:4], words[3:7]))
         self.assertEqual(words.tolist(), 9 * [7])
 
+    def test_overview(self):
+        cells = numpy.array([[3, 1], [0, 0], [2, 3]], dtype=numpy.uint32)
+        expected = [STANDARD.query(32, 4, 2, int(column), int(row), 7, SHIFTS[2]) for column, row in cells]
+        columns, rows = cells[:, 0].copy(), cells[:, 1].copy()
+        asked = [(columns, rows), (cells[:, 0], cells[:, 1]), (columns, rows.tolist()), (columns.tolist(), rows), (array.array('I', columns), rows)]
+        for given in asked:
+            indexes = STANDARD.overview(32, 4, 2, *given, 7, SHIFTS[2])
+            self.assertIsInstance(indexes, numpy.ndarray)
+            self.assertEqual((indexes.dtype, indexes.tolist()), (numpy.uint32, expected))
+        indexes[0] = 7  # the answers are the caller's
+        columns.flags.writeable = False
+        self.assertEqual(STANDARD.overview(32, 4, 2, columns, rows, 7, SHIFTS[2]).tolist(), expected)
+        self.assertEqual(cells.tolist(), [[3, 1], [0, 0], [2, 3]])
+        self.assertEqual(STANDARD.overview(32, 4, 2, columns[:0], columns[:0]).shape, (0,))
+        self.assertEqual(STANDARD.overview(32, 4, 2, [numpy.uint32(3)], [numpy.int64(1)]), [3])
+
+    def test_refused_overviews(self):
+        words = numpy.zeros(4, dtype=numpy.uint32)
+        wrong = [(words.astype(kind), 'not 32-bit unsigned') for kind in ('i4', 'f4', 'u8', 'i8', 'f8', '>u4', 'u1', 'O', '?')]
+        wrong += [(each, 'not one-dimensional') for each in (words.reshape(2, 2), numpy.uint32(7))]
+        wrong += [(numpy.zeros(4, 'M8[s]'), 'no whole number')]
+        for given, message in wrong:
+            self.assertRaisesRegex(TypeError, f'columns.*{message}', STANDARD.overview, 32, 4, 2, given, words)
+            self.assertRaisesRegex(TypeError, f'rows.*{message}', STANDARD.overview, 32, 4, 2, words, given)
+        self.assertRaises(vektrid.BufferLengths, STANDARD.overview, 32, 4, 2, words, words[:3])
+        with self.assertRaises(vektrid.Cell) as caught:
+            STANDARD.overview(32, 4, 2, words, words + numpy.uint32(4))
+        self.assertEqual(caught.exception.place, 0)
+
     def test_numbers(self):
         self.assertEqual(STANDARD.point(numpy.uint32(5), (numpy.uint64(0), numpy.int8(0))), STANDARD.point(5))
         self.assertEqual(vektrid.Pair(numpy.array(STANDARD.words, dtype=numpy.uint32)), STANDARD)
@@ -1000,7 +1176,8 @@ class Interface(unittest.TestCase):
         self.assertEqual((tried.failed, tried.attempted > 3), (0, True))
 
     def test_numpy_is_not_imported(self):
-        done = self.python('import sys, vektrid; vektrid.Pair.standard().fill(0, 3); print("numpy" in sys.modules)', HERE)
+        done = self.python('import sys, vektrid; pair = vektrid.Pair.standard(); pair.fill(0, 3); '
+                           'pair.overview(32, 2, 1, [0], [0]); print("numpy" in sys.modules)', HERE)
         self.assertEqual(done.stdout, 'False\n')
 
     def python(self, program, folder, **environment):

@@ -25,6 +25,7 @@ Position(x=-300, y=525)
 Traceback (most recent call last):
 vektrid.Level: refusal 2: a level is not 1 to 32: level = 33
 """
+import array
 import collections
 import ctypes
 import operator
@@ -38,8 +39,8 @@ __all__ = ['ABI', 'Refusal', 'WordCount', 'Level', 'NotNet', 'Size', 'Shape', 'C
            'Position', 'FileVisit', 'Pair', 'Walk', 'SinglesWalk', 'Region', 'standard_point', 'double', 'single', 'judge', 'visits', 'listing',
            'listing_pieces', 'sheet', 'sheet_pieces', 'sheet_pages', 'LARGEST_LEVEL', 'LAST_INDEX', 'LONGEST_LINE']
 
-__version__ = '1.2.0'  # of the bindings; rust/vektrid has the same
-ABI = 3  # the number of the interface that this file is written for: VEKTRID_ABI of the header
+__version__ = '1.3.0'  # of the bindings; rust/vektrid has the same
+ABI = 4  # the number of the interface that this file is written for: VEKTRID_ABI of the header
 
 LARGEST_LEVEL = 32
 LAST_INDEX = 2**32 - 1  # and the largest word
@@ -119,11 +120,14 @@ class Shape(Refusal):
 class Cell(Refusal):
     """6: the column or the row is outside the shape.
 
-    The shape (m, a) has 2^a columns and 2^(m-a) rows of elementary intervals (cells), each counted from 0.
+    The shape (m, a) has 2^a columns and 2^(m-a) rows of elementary intervals (cells), each counted from 0. Of an overview, `place` says where the
+    first cell outside stands.
     """
     number = 6
     words = 'the column or the row is outside the shape'
-    details = 'column = {column}, row = {row}, and the shape (m, a) = ({m}, {a}) has 2^{a} columns and 2^{rest} rows'
+    details = '{where}column = {column}, row = {row}, and the shape (m, a) = ({m}, {a}) has 2^{a} columns and 2^{rest} rows'
+
+    place = property(lambda self: self.given.get('place'), doc='The place in the columns and rows of an overview, from 0 on; None for a query.')
 
 
 class Block(Refusal):
@@ -140,7 +144,7 @@ class BufferLengths(Refusal):
     """8: two buffers differ in length."""
     number = 8
     words = 'two buffers differ in length'
-    details = 'xs has {xs} words and ys has {ys}'
+    details = '{lengths}'
 
 
 class IndexRange(Refusal):
@@ -295,6 +299,7 @@ _CALLS = {
     'vektrid_walk_step': (_WORD, _PAIR + [_TO_WORD, _TO_LONG, _TO_WORD, _TO_WORD, _TO_WORD, _TO_WORD]),
     'vektrid_walk_step_singles': (_WORD, _PAIR + [_TO_WORD, _TO_LONG, _TO_WORD, _TO_WORD, _TO_SINGLE, _TO_SINGLE]),
     'vektrid_query': (_WORD, _PAIR + 6 * [_WORD] + [_TO_WORD, _TO_WORD]),
+    'vektrid_overview': (_WORD, _PAIR + 4 * [_WORD] + 3 * [_TO_WORD, _SIZE] + [_TO_WORD]),
     'vektrid_double': (ctypes.c_double, [_WORD]),
     'vektrid_single': (_SINGLE, [_WORD]),
     'vektrid_point_singles': (_WORD, _PAIR + [_WORD, _TO_SINGLE, _TO_SINGLE]),
@@ -393,16 +398,28 @@ def _field(field):
     return _whole('field width', width), _whole('field height', height)
 
 
-def _lent(name, buffer):
-    """A lent buffer: its first word, in place and held there as long as that object lives, and the number of its words."""
+def _view(values):
+    """A view of a buffer, or None for what is no buffer."""
     try:
-        view = memoryview(buffer)
+        return memoryview(values)
     except (TypeError, ValueError):
-        raise TypeError(f'{name} is a {type(buffer).__name__}; a numpy array of uint32, an array.array("I") or a ctypes array '
-                        'of c_uint32 is needed') from None
+        return None
+
+
+def _of_words(name, view):
+    """Refuses a view whose items are no words."""
     native = '@=<' if sys.byteorder == 'little' else '@=>!'
     if view.itemsize not in (0, 4) or view.format.lstrip(native) not in ('I', 'L'):  # 0: an empty ctypes array, before Python 3.10
         raise TypeError(f'{name} has items of type {view.format}, not 32-bit unsigned words (uint32, array.array("I"), c_uint32)')
+
+
+def _lent(name, buffer):
+    """A lent buffer: its first word, in place and held there as long as that object lives, and the number of its words."""
+    view = _view(buffer)
+    if view is None:
+        raise TypeError(f'{name} is a {type(buffer).__name__}; a numpy array of uint32, an array.array("I") or a ctypes array '
+                        'of c_uint32 is needed')
+    _of_words(name, view)
     if view.ndim != 1 or not view.c_contiguous:
         raise TypeError(f'{name} is not one-dimensional and contiguous')
     if view.readonly:
@@ -422,6 +439,37 @@ def _apart(xs, xs_count, ys, ys_count):
         raise ValueError('xs and ys overlap; two buffers apart from each other are needed')
 
 
+def _words(name, values):
+    """Whole numbers, one by one, as words of our own."""
+    checked = [_whole(f'{name}[{place}]', value) for place, value in enumerate(values)]
+    return (ctypes.c_uint32 * len(checked))(*checked)
+
+
+def _read(name, values):
+    """Words for the library to read, from a buffer of words or from whole numbers one by one: a copy, which nobody can change meanwhile."""
+    view = _view(values)
+    if view is None:
+        try:
+            numbers = iter(values)
+        except TypeError:
+            raise TypeError(f'{name} is a {type(values).__name__}; a list of whole numbers or a buffer of 32-bit unsigned words is needed') from None
+        return _words(name, numbers)
+    _of_words(name, view)
+    if view.ndim != 1:
+        raise TypeError(f'{name} is not one-dimensional')
+    return (ctypes.c_uint32 * len(view)).from_buffer_copy(view.tobytes())
+
+
+def _answers(count, *asked):
+    """Words to be written, of the kind that was asked with: a numpy array, an array.array where another buffer was, or else a ctypes array."""
+    numpy = sys.modules.get('numpy')  # where nobody has imported it, nobody has an array of it
+    if numpy and any(isinstance(each, numpy.ndarray) for each in asked):
+        return numpy.zeros(count, dtype=numpy.uint32)
+    if any(_view(each) is not None for each in asked):
+        return array.array('I', bytes(4 * count))
+    return (ctypes.c_uint32 * count)()
+
+
 def _content(file):
     """The bytes of a region file. A buffer that may change is copied, so that an iterator over it goes on with what it began with."""
     if type(file) is bytes:  # and no subclass, whose len may be anything
@@ -438,6 +486,19 @@ def _content(file):
 # ---- generator matrices: points, fills, walks, queries
 
 
+def _accept_cells(number, j, given):
+    """Raises the refusal that a query or an overview answered, if it is one, with the values that were given."""
+    if number:
+        rest = 32 - given['m'] if number == Block.number else given['m'] - given['a']
+        _accept(number, **{'where': '', 'j': j.value, 'rest': rest, **given})
+
+
+def _first_outside(columns, rows, m, a):
+    """What the message shows of the first cell of an overview that is outside the shape. The library has judged it; this only reads."""
+    place = next(place for place, (column, row) in enumerate(zip(columns, rows)) if column >> a or row >> m - a)
+    return dict(where=f'at place {place}, ', place=place, column=columns[place], row=rows[place])
+
+
 class Pair:
     """Two generator matrices (pair), copied from 64 words: the 32 columns of X, then those of Y. Never changes.
 
@@ -449,8 +510,7 @@ class Pair:
     __slots__ = ('_words',)
 
     def __init__(self, words):
-        checked = [_whole(f'words[{place}]', word) for place, word in enumerate(words)]
-        self._words = (ctypes.c_uint32 * len(checked))(*checked)
+        self._words = _words('words', words)
         self.point(0)  # any call refuses another number of words
 
     @classmethod
@@ -529,7 +589,8 @@ class Pair:
         _apart(*lent_xs, *lent_ys)
         (xs, xs_count), (ys, ys_count) = lent_xs, lent_ys
         number = _library.vektrid_fill(*self._under(shift), start, xs, xs_count, ys, ys_count)
-        _accept(number, xs=xs_count, ys=ys_count, start=start, count=xs_count)
+        if number:
+            _accept(number, lengths=f'xs has {xs_count} words and ys has {ys_count}', xs=xs_count, ys=ys_count, start=start, count=xs_count)
 
     def _fill_new(self, start, count, shift, numpy):
         """Two new lists or numpy arrays."""
@@ -562,10 +623,35 @@ class Pair:
         given = {name: _whole(name, value) for name, value in zip(names, (level, m, a, column, row, block))}
         index, j = ctypes.c_uint32(), ctypes.c_uint32()
         number = _library.vektrid_query(*self._under(shift), *given.values(), index, j)
-        if number:
-            rest = 32 - given['m'] if number == Block.number else given['m'] - given['a']
-            _accept(number, j=j.value, rest=rest, **given)
+        _accept_cells(number, j, given)
         return index.value
+
+    def overview(self, level, m, a, columns, rows, block=0, shift=(0, 0)):
+        """What query gives for many elementary intervals (cells) of one shape and block, in one call: for the cell (columns[i], rows[i]) at place i.
+
+        Columns and rows are lists, or anything else that gives whole numbers one by one, or one-dimensional buffers of 32-bit unsigned words:
+        numpy arrays of uint32, array.array('I'), memoryviews and ctypes arrays of such words. A buffer of other items raises TypeError; the list
+        that its `tolist` gives is taken. Both are copied, and never changed. Gives a numpy array of uint32 where one of the two is a numpy array,
+        else an array.array('I') where one is a buffer, else a list.
+
+        Refused, in this order: BufferLengths, Level, Size, Shape, Cell for the first cell, Block, NotNet, Cell for the later cells. Without cells
+        all but Cell are judged all the same.
+
+        >>> import vektrid
+        >>> vektrid.Pair.standard().overview(32, 2, 1, columns=[0, 1, 0, 1], rows=[0, 0, 1, 1])
+        [0, 3, 2, 1]
+        """
+        given = {name: _whole(name, value) for name, value in (('level', level), ('m', m), ('a', a), ('block', block))}
+        column_words, row_words = _read('columns', columns), _read('rows', rows)
+        answers, j = _answers(len(column_words), columns, rows), ctypes.c_uint32()
+        number = _library.vektrid_overview(*self._under(shift), *given.values(), column_words, len(column_words), row_words, len(row_words),
+                                           *_lent('answers', answers), j)
+        if number == Cell.number:
+            given.update(_first_outside(column_words, row_words, given['m'], given['a']))
+        if number == BufferLengths.number:
+            given.update(lengths=f'columns has {len(column_words)} words and rows has {len(row_words)}')
+        _accept_cells(number, j, given)
+        return answers[:] if isinstance(answers, ctypes.Array) else answers
 
 
 class Walk:
