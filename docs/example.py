@@ -31,3 +31,17 @@ print(f'the square: x from {edges_x[0]} to {edges_x[1]}, y from {edges_y[0]} to 
 assert edges_x[0] - 1 < at.x < edges_x[1] and edges_y[0] - 1 < at.y < edges_y[1]
 assert slide.left <= at.x and at.x + field_width <= slide.left + slide.width
 assert slide.top <= at.y and at.y + field_height <= slide.top + slide.height
+
+places = range(64)
+columns = [place % 8 for place in places]
+rows = [place // 8 for place in places]
+indexes = pair.overview(32, 6, 3, columns, rows, block=0, shift=shift)
+quarters = [1 + index // 16 for index in indexes]
+print('each square, by the quarter of the round that sees it')
+for row in range(8):
+    print(*quarters[8 * row:8 * row + 8])
+
+for column, row in zip(columns, rows):
+    if column % 2 == 0 and row % 2 == 0:
+        corner = 8 * row + column
+        assert sorted(quarters[corner + step] for step in (0, 1, 8, 9)) == [1, 2, 3, 4]
