@@ -295,8 +295,8 @@ class RefusalOrder(unittest.TestCase):
         # from the last test to the first, as above; a cell outside comes before the block only where it is the first
         far, later = [4, 0], [0, 4]
         for number, given in [(3, (32, 4, 2, [0, 0], [0, 0], 0)), (3, (32, 4, 2, later, [0, 0], 0)), (7, (32, 4, 2, later, later, 2**28)),
-                              (6, (32, 4, 2, far, [0, 0], 2**28)), (5, (32, 4, 5, far, far, 2**28)), (4, (3, 4, 5, far, far, 2**28)),
-                              (2, (0, 4, 5, far, far, 2**28)), (8, (0, 4, 5, far, [4], 2**28)),
+                              (6, (32, 4, 2, far, [0, 0], 0)), (6, (32, 4, 2, far, [0, 0], 2**28)), (5, (32, 4, 5, far, far, 2**28)),
+                              (4, (3, 4, 5, far, far, 2**28)), (2, (0, 4, 5, far, far, 2**28)), (8, (0, 4, 5, far, [4], 2**28)),
                               (3, (32, 4, 2, [], [], 0)), (7, (32, 4, 2, [], [], 2**28)), (5, (32, 4, 5, [], [], 2**28)),
                               (4, (3, 4, 5, [], [], 2**28)), (2, (0, 4, 5, [], [], 2**28))]:
             with self.assertRaises(vektrid.Refusal) as caught:

@@ -353,7 +353,7 @@ static void all_small_cells(void) {
 
 /* ---- many cells at once: the answers stand in the middle of a longer buffer, whose other words must stay */
 
-enum { BEFORE = 4, ROOM = 80 };
+enum { BEFORE = 4, ROOM = 320 };
 
 static int kept_around(const uint32_t *answers, size_t count) {
     return all_kept(answers, BEFORE) && all_kept(answers + BEFORE + count, ROOM - BEFORE - count);
@@ -382,32 +382,50 @@ static void known_overviews(void) {
     CHECK(kept_around(answers, 0) && j == KEPT);
 }
 
-/* Every cell of one shape and block: each answer lies in the block and in its cell, and columns and rows are only read. */
-static void overview(uint32_t m, uint32_t a, uint32_t block, uint32_t shift_x, uint32_t shift_y) {
-    uint32_t columns[64], rows[64], answers[ROOM], j = KEPT, count = 1u << m;
-    for (uint32_t i = 0; i < count; i++) {
-        columns[i] = i >> (m - a);
-        rows[i] = i & ((1u << (m - a)) - 1);
-    }
+/* Each answer lies in the block and in its cell. */
+static void overview(uint32_t m, uint32_t a, uint32_t block, uint32_t shift_x, uint32_t shift_y, const uint32_t *columns, const uint32_t *rows,
+                     size_t count) {
+    uint32_t answers[ROOM], j = KEPT;
     keep(answers, ROOM);
-    CHECK(vektrid_overview(standard, 64, shift_x, shift_y, 6, m, a, block, columns, count, rows, count, answers + BEFORE, count, &j) == 0);
-    for (uint32_t i = 0; i < count; i++) {
+    CHECK(vektrid_overview(standard, 64, shift_x, shift_y, 32, m, a, block, columns, count, rows, count, answers + BEFORE, count, &j) == 0);
+    for (size_t i = 0; i < count; i++) {
         uint32_t index = answers[BEFORE + i];
-        CHECK(columns[i] == i >> (m - a) && rows[i] == (i & ((1u << (m - a)) - 1)));
-        CHECK(index >> m == block);
+        CHECK(top(index, 32 - m) == block);
         CHECK(top(point_of(standard, shift_x, index), a) == columns[i]);
         CHECK(top(point_of(standard + 32, shift_y, index), m - a) == rows[i]);
     }
     CHECK(kept_around(answers, count) && j == KEPT);
 }
 
+/* Every cell of every small shape; columns and rows are only read. */
 static void all_small_overviews(void) {
     for (uint32_t m = 0; m <= 6; m++)
         for (uint32_t a = 0; a <= m; a++) {
-            overview(m, a, 0, 0, 0);
-            overview(m, a, 5, 0x12345678u, 0x9ABCDEF0u);
-            overview(m, a, LAST >> m, LAST, 1);
+            uint32_t cells_of[2][64], before[2][64], count = 1u << m;
+            for (uint32_t i = 0; i < 64; i++) {
+                cells_of[0][i] = i >> (m - a);
+                cells_of[1][i] = i & ((1u << (m - a)) - 1);
+            }
+            memcpy(before, cells_of, sizeof before);
+            overview(m, a, 0, 0, 0, cells_of[0], cells_of[1], count);
+            overview(m, a, 5, 0x12345678u, 0x9ABCDEF0u, cells_of[0], cells_of[1], count);
+            overview(m, a, LAST >> m, LAST, 1, cells_of[0], cells_of[1], count);
+            CHECK(memcmp(cells_of, before, sizeof before) == 0);
         }
+}
+
+/* Hundreds of cells of large shapes. */
+static void long_overviews(void) {
+    static const uint32_t shapes[6][2] = {{17, 8}, {31, 0}, {31, 31}, {32, 0}, {32, 16}, {32, 32}};
+    uint32_t word = 1;
+    for (int n = 0; n < 6; n++) {
+        uint32_t columns[300], rows[300];
+        for (int i = 0; i < 300; i++, word = word * 1664525u + 1013904223u) {
+            columns[i] = top(word, shapes[n][1]);
+            rows[i] = top(~word * 5, shapes[n][0] - shapes[n][1]);
+        }
+        overview(shapes[n][0], shapes[n][1], top(word, 32 - shapes[n][0]), 0x12345678u, 0x9ABCDEF0u, columns, rows, 300);
+    }
 }
 
 static void refused_overviews(void) {
@@ -1003,6 +1021,7 @@ int main(void) {
     all_small_cells();
     known_overviews();
     all_small_overviews();
+    long_overviews();
     refused_overviews();
     overviews_with_a_cell_outside();
     unit_numbers();

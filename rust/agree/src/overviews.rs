@@ -87,8 +87,9 @@ impl Case for Overview {
 
     fn simpler(&self) -> Vec<Overview> {
         let mut simpler = self.shorter();
-        simpler.extend((self.before > 0).then(|| Overview { before: 0, ..self.clone() }));
-        simpler.extend((self.behind > 0).then(|| Overview { behind: 0, ..self.clone() }));
+        // One place on either side stays, so that what is written there can still be told.
+        simpler.extend((self.before > 1).then(|| Overview { before: 1, ..self.clone() }));
+        simpler.extend((self.behind > 1).then(|| Overview { behind: 1, ..self.clone() }));
         simpler.extend(self.with_simpler_numbers());
         simpler.extend(self.with_simpler_cells());
         let shifts = simpler_shift(self.shift).into_iter();
@@ -195,14 +196,27 @@ impl Overview {
 
 /// Cells of a shape and a block that are in order, at level 32.
 fn of_shape(random: &mut Splitmix, (m, a): (u32, u32), length: usize) -> Overview {
-    let choice = u64::from(random.below(4));
-    // The third choice is one past the last.
-    let block = at_limit(if choice == 2 { 3 } else { choice }, 32 - m, random);
-    let columns = (0..length).map(|_| at_limit(3, a, random)).collect();
-    let rows = (0..length).map(|_| at_limit(3, m - a, random)).collect();
+    let block = inside(random, 32 - m);
+    let columns = (0..length).map(|_| inside(random, a)).collect();
+    let rows = (0..length).map(|_| inside(random, m - a)).collect();
     let (words, shift) = (pairs::mostly_nets(random), pairs::shift(random));
     let before = 8 + random.below(16) as usize;
     Overview { words, shift, level: 32, m, a, block, columns, rows, length, before, behind: 20 }
+}
+
+/// A number below 2^bits: 0, the last, or any.
+fn inside(random: &mut Splitmix, bits: u32) -> u32 {
+    at_limit(random.pick(&[0, 1, 3, 3, 3]), bits, random)
+}
+
+/// A number that is not below 2^bits: the first such one, or any.
+fn past(random: &mut Splitmix, bits: u32) -> u32 {
+    let first = 1 << bits;
+    if random.one_in(2) {
+        first
+    } else {
+        first | random.word()
+    }
 }
 
 /// None, one, up to 64, and now and then hundreds.
@@ -250,18 +264,8 @@ fn one_outside(random: &mut Splitmix, number: u64) -> Overview {
     case
 }
 
-/// A number that is not below 2^bits: the first such one, or any.
-fn past(random: &mut Splitmix, bits: u32) -> u32 {
-    let first = 1 << bits;
-    if random.one_in(2) {
-        first
-    } else {
-        first | random.word()
-    }
-}
-
-/// One of the three buffers, or two, shorter or longer than they should be; half of them with another
-/// thing that is wrong.
+/// One, two or all three of the buffers shorter or longer than they should be; some overviews have
+/// another fault too.
 fn other_lengths(random: &mut Splitmix, number: u64) -> Overview {
     let mut case =
         if random.one_in(2) { in_order(random, number) } else { one_outside(random, number) };
@@ -270,15 +274,15 @@ fn other_lengths(random: &mut Splitmix, number: u64) -> Overview {
         1 => length.saturating_sub(1),
         _ => random.below(70) as usize,
     };
-    if number % 3 != 0 {
-        let length = changed(case.columns.len());
-        case.columns.resize(length, 0);
+    // A bit for each of the three.
+    let which = 1 + number % 7;
+    if which & 1 > 0 {
+        case.columns.resize(changed(case.columns.len()), 0);
     }
-    if number % 3 != 1 {
-        let length = changed(case.rows.len());
-        case.rows.resize(length, 0);
+    if which & 2 > 0 {
+        case.rows.resize(changed(case.rows.len()), 0);
     }
-    if number % 5 == 0 {
+    if which & 4 > 0 {
         case.length = changed(case.length);
     }
     case
