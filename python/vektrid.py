@@ -474,10 +474,9 @@ def _content(file):
     """The bytes of a region file. A buffer that may change is copied, so that an iterator over it goes on with what it began with."""
     if type(file) is bytes:  # and no subclass, whose len may be anything
         return file
-    try:
-        view = memoryview(file)
-    except (TypeError, ValueError):
-        raise TypeError(f'file is a {type(file).__name__}; its content is needed as bytes') from None
+    view = _view(file)
+    if view is None:
+        raise TypeError(f'file is a {type(file).__name__}; its content is needed as bytes')
     if view.itemsize != 1:
         raise TypeError(f'file has items of {view.itemsize} bytes (type {view.format}); its content is needed as bytes')
     return view.tobytes()

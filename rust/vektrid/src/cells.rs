@@ -55,10 +55,10 @@ impl Pair {
         query_words(self.words(), shift, level, cell)
     }
 
-    /// Writes to `answers[i]` what [`Pair::query`] gives for cell number i, for all of them in one
-    /// call. Or the first refusal that applies, in the order 8, 2, 4, 5, then 6 of the first cell, 7,
-    /// 3, then 6 of the later cells, and then nothing is written. Refusal 8 is given unless there are as
-    /// many rows and as many answers as columns. Without cells the others but 6 are given all the same.
+    /// Writes to `answers[i]` what [`Pair::query`] gives for cell number i, for all cells in one call.
+    /// Refused under the first that applies, and then nothing is written, in the order 8, 2, 4, 5, then
+    /// 6 of the first cell, 7, 3, then 6 of the later cells. Refusal 8 is given unless there are as many
+    /// rows and as many answers as columns. Without cells, all of these but 6 are judged all the same.
     ///
     /// ```
     /// use vektrid::{Cells, Pair, Refusal, Shift};
