@@ -1,7 +1,9 @@
-// The check and the query in plain C++, with the answers and refusals of document 01.
+// The check, the query and the overview in plain C++, with the answers and refusals of document 01 and of C-14.
 #pragma once
 
+#include <cstddef>
 #include <cstdint>
+#include <vector>
 
 #include "peers.hpp"
 
@@ -11,9 +13,23 @@ struct Answer {
     bool operator==(const Answer&) const = default;
 };
 
-struct Query {
+// What a query asks beside its cell: the cells of one shape, and a block that has one point in each.
+struct Grid {
     Shift shift;
-    uint32_t level, m, a, column, row, block;
+    uint32_t level, m, a, block;
+};
+
+struct Query : Grid {
+    uint32_t column, row;
+};
+
+// Many cells of one grid: cell i is (columns[i], rows[i]).
+struct Overview : Grid {
+    std::vector<uint32_t> columns, rows;
+    bool fits(const std::vector<uint32_t>& answers) const { return columns.size() == rows.size() && rows.size() == answers.size(); }
+    Query query(size_t i) const { return {*this, columns[i], rows[i]}; }
+    // Of no cells the query of cell (0, 0), which every shape has.
+    Query first() const { return columns.empty() ? Query{*this, 0, 0} : query(0); }
 };
 
 // The cell of a point in the shape (m, a), as one number: its column above its row.
@@ -66,3 +82,5 @@ inline uint32_t eliminate(const Pair& pair, uint32_t m, uint32_t a, Basis& basis
 Answer cpp_check(const Pair& pair, uint32_t level);
 Answer cpp_check_minors(const Pair& pair, uint32_t level);
 Answer cpp_query(const Pair& pair, const Query& query);
+// Writes the index of each cell to its place in the answers, unless it refuses.
+Answer cpp_overview(const Pair& pair, const Overview& of, std::vector<uint32_t>& answers);

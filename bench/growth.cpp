@@ -1,10 +1,11 @@
-// How our calls grow: fills with their length, queries with m, checks with the level. Ours alone.
+// How our calls grow: fills with their length, queries with m, overviews with their cells, checks with the level. Ours alone.
 #include <functional>
 #include <string>
 #include <vector>
 
 #include "../include/vektrid.h"
 #include "pairs.hpp"
+#include "queries.hpp"
 #include "report.hpp"
 
 namespace {
@@ -32,6 +33,18 @@ Size query_size(const Pair& pair, uint32_t m) {
             }};
 }
 
+// An overview of the first n cells of a list.
+Size overview_size(const Pair& pair, const Overview& of, std::vector<uint32_t>& words, size_t n) {
+    uint32_t* const answers = words.data();
+    return {"overview, m = 12", std::to_string(n) + (n == 1 ? " cell" : " cells"), n < 256 ? 256 : static_cast<int>(65536 / n),
+            [=, &pair, &of] {
+                uint32_t j = 0;
+                vektrid_overview(pair.data(), 64, of.shift.x, of.shift.y, of.level, of.m, of.a, of.block, of.columns.data(), n,
+                                 of.rows.data(), n, answers, n, &j);
+                keep(answers);
+            }};
+}
+
 Size check_size(const Pair& pair, uint32_t level) {
     return {"check", "level " + std::to_string(level), level < 16 ? 16 : 1, [=, &pair] {
                 uint32_t m = 0, a = 0, j = 0;
@@ -45,9 +58,11 @@ Size check_size(const Pair& pair, uint32_t level) {
 void measure_growth(Report& report) {
     const Pair pair = scrambled_pair(1);
     std::vector<uint32_t> words(size_t{2} << 22);
+    const Overview of = squares(65536);
     std::vector<Size> sizes;
     for (const int log : {0, 4, 8, 12, 16, 20, 22}) sizes.push_back(fill_size(pair, words, log));
     for (const uint32_t m : {0, 4, 8, 16, 24, 32}) sizes.push_back(query_size(pair, m));
+    for (const size_t n : {0, 1, 16, 256, 4096, 65536}) sizes.push_back(overview_size(pair, of, words, n));
     for (const uint32_t level : {1, 4, 8, 16, 24, 32}) sizes.push_back(check_size(pair, level));
     Race race;
     for (const Size& size : sizes)

@@ -41,6 +41,7 @@ void compare(Report& report, const std::string& python) {
     compare_scipy(report, python);
     compare_points(report);
     compare_cells(report);
+    compare_overviews(report);
     compare_singles(report);
     compare_listings(report);
     compare_sheets(report);
@@ -50,9 +51,10 @@ void measure(Report& report, const std::string& python, const std::string& reaso
     say("measuring fills");
     measure_fills(report);
     measure_scipy(report, python, reason);
-    say("measuring points, checks, queries and singles");
+    say("measuring points, checks, queries, overviews and singles");
     measure_points(report);
     measure_cells(report);
+    measure_overviews(report);
     measure_singles(report);
     say("measuring listings and sheets");
     measure_listings(report);

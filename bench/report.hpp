@@ -78,6 +78,8 @@ void compare_points(Report& report);
 void measure_points(Report& report);
 void compare_cells(Report& report);
 void measure_cells(Report& report);
+void compare_overviews(Report& report);
+void measure_overviews(Report& report);
 void compare_singles(Report& report);
 void measure_singles(Report& report);
 void compare_listings(Report& report);
