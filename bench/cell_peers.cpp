@@ -47,15 +47,31 @@ Answer cpp_check_minors(const Pair& pair, uint32_t level) {
     return {};
 }
 
+// Its tests are written out: where they stand in a function of their own, g++ 12 makes the whole query slower.
+Answer cpp_query(const Pair& pair, const Query& query) {
+    const uint32_t m = query.m, a = query.a;
+    if (query.level < 1 || query.level > 32) return {2};
+    if (m > query.level) return {4};
+    if (a > m) return {5};
+    if (uint64_t{query.column} >> a != 0 || uint64_t{query.row} >> (m - a) != 0) return {6};
+    if (uint64_t{query.block} >> (32 - m) != 0) return {7};
+    Basis basis;
+    const uint32_t j = eliminate(pair, m, a, basis);
+    if (j != 0) return {3, m, a, j};
+    const uint32_t first = static_cast<uint32_t>(uint64_t{query.block} << m);
+    const Point start = set_bits_point(pair, query.shift, first);
+    const uint32_t wanted = static_cast<uint32_t>(uint64_t{query.column} << (m - a) | query.row);
+    return {0, 0, 0, 0, first | basis.index_of(wanted ^ cell(start.x, start.y, m, a))};
+}
+
 namespace {
 
-inline bool outside(const Grid& grid, uint32_t column, uint32_t row) {
+bool outside(const Grid& grid, uint32_t column, uint32_t row) {
     return uint64_t{column} >> grid.a != 0 || uint64_t{row} >> (grid.m - grid.a) != 0;
 }
 
-// 0, or what refuses a query for its numbers. The callers begin a basis only after this: where it is begun before, g++ 12 clears it before the
-// tests, and a query takes almost twice the time.
-inline uint32_t judge(const Query& query) {
+// 0, or what refuses the query of the first cell for its numbers.
+uint32_t judge(const Query& query) {
     if (query.level < 1 || query.level > 32) return 2;
     if (query.m > query.level) return 4;
     if (query.a > query.m) return 5;
@@ -63,32 +79,7 @@ inline uint32_t judge(const Query& query) {
     return uint64_t{query.block} >> (32 - query.m) != 0 ? 7 : 0;
 }
 
-// The block's first index and its cell; the other points of the block are reckoned from these.
-struct Start {
-    uint32_t index, cell;
-};
-
-inline Start start_of(const Pair& pair, const Grid& grid) {
-    const uint32_t index = static_cast<uint32_t>(uint64_t{grid.block} << grid.m);
-    const Point point = set_bits_point(pair, grid.shift, index);
-    return {index, cell(point.x, point.y, grid.m, grid.a)};
-}
-
-inline uint32_t solve(const Basis& basis, Start start, uint32_t column, uint32_t row, uint32_t row_bits) {
-    const uint32_t wanted = static_cast<uint32_t>(uint64_t{column} << row_bits | row);
-    return start.index | basis.index_of(wanted ^ start.cell);
-}
-
 }  // namespace
-
-Answer cpp_query(const Pair& pair, const Query& query) {
-    const uint32_t m = query.m, a = query.a, refusal = judge(query);
-    if (refusal != 0) return {refusal};
-    Basis basis;
-    const uint32_t j = eliminate(pair, m, a, basis);
-    if (j != 0) return {3, m, a, j};
-    return {0, 0, 0, 0, solve(basis, start_of(pair, query), query.column, query.row, m - a)};
-}
 
 Answer cpp_overview(const Pair& pair, const Overview& of, std::vector<uint32_t>& answers) {
     if (!of.fits(answers)) return {8};
@@ -101,7 +92,12 @@ Answer cpp_overview(const Pair& pair, const Overview& of, std::vector<uint32_t>&
     uint32_t columns = 0, rows = 0;
     for (size_t i = 0; i < answers.size(); ++i) columns |= of.columns[i], rows |= of.rows[i];
     if (outside(of, columns, rows)) return {6};
-    const Start start = start_of(pair, of);
-    for (size_t i = 0; i < answers.size(); ++i) answers[i] = solve(basis, start, of.columns[i], of.rows[i], m - a);
+    const uint32_t first = static_cast<uint32_t>(uint64_t{of.block} << m);
+    const Point start = set_bits_point(pair, of.shift, first);
+    const uint32_t at = cell(start.x, start.y, m, a);
+    for (size_t i = 0; i < answers.size(); ++i) {
+        const uint32_t wanted = static_cast<uint32_t>(uint64_t{of.columns[i]} << (m - a) | of.rows[i]);
+        answers[i] = first | basis.index_of(wanted ^ at);
+    }
     return {};
 }

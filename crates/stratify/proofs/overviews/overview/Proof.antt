@@ -36,6 +36,37 @@ judged c =
     c .judge .ensures ∙ ap₂ (λ (k r : ℕ). first (query-tests (a .level) (a .m) (a .a) (a .block) k r) (accepted tt))
     (c .before .before .first-or-zero .ensures) (c .before .first-or-zero2 .ensures)
 
+returns : tie.Need-returns
+returns c =
+    let a = c .before .before .before .before .args in
+    refuses (a .answers .now) (rows-differ (a .plan) (a .shift) (a .level) (a .m) (a .a) (a .block) (a .columns .now) (a .rows .now)
+    (a .answers .now) (c .if1 .taken))
+
+returns-2 : tie.Need-returns-2
+returns-2 c =
+    let a = c .before .before .before .before .before .args in
+    refuses (a .answers .now) (answers-differ (a .plan) (a .shift) (a .level) (a .m) (a .a) (a .block) (a .columns .now) (a .rows .now)
+    (a .answers .now) (c .before .if1 .left) (c .if2 .taken))
+
+first-or-zero-requires : tie.Need-first-or-zero-requires
+first-or-zero-requires c κs = search needs
+
+first-or-zero-requires-2 : tie.Need-first-or-zero-requires-2
+first-or-zero-requires-2 c κs = search needs
+
+judge-requires : tie.Need-judge-requires
+judge-requires c κs = search needs
+
+enum-known-judged : tie.Need-enum-known-judged
+enum-known-judged c = search needs
+
+returns-3 : tie.Need-returns-3
+returns-3 c =
+    let j = c .before .before .before in
+    let a = j .before .before .before .before .before .before .before .before .args in
+    refuses (a .answers .now) (tests-refuse (a .plan) (a .shift) (a .level) (a .m) (a .a) (a .block) (a .columns .now) (a .rows .now)
+    (a .answers .now) (j .before .before .before .before .if1 .left) (j .before .before .before .if2 .left) (sym (judged j) ∙ ap of-judgement (c .before .judged .given .1)))
+
 valid : (s : tie.Start) → Valid (generators (s .args .plan))
 valid s =
     words-valid (s .args .plan .x) (s .args .plan .y)
@@ -72,37 +103,6 @@ no-kernel c = omega arith
 
 odd : (c : tie.Else3) → let a = c .before .before .before .before .before .before .before .before .before .before .before .before .before .args in determinant (generators (a .plan)) (a .m) (a .a) ≢ 0
 odd c = determinant-nonzero (shape (c .before .before .before)) (columns (c .before)) (inverts (c .before) .kernel-is) (no-kernel c)
-
-returns : tie.Need-returns
-returns c =
-    let a = c .before .before .before .before .args in
-    refuses (a .answers .now) (rows-differ (a .plan) (a .shift) (a .level) (a .m) (a .a) (a .block) (a .columns .now) (a .rows .now)
-    (a .answers .now) (c .if1 .taken))
-
-returns-2 : tie.Need-returns-2
-returns-2 c =
-    let a = c .before .before .before .before .before .args in
-    refuses (a .answers .now) (answers-differ (a .plan) (a .shift) (a .level) (a .m) (a .a) (a .block) (a .columns .now) (a .rows .now)
-    (a .answers .now) (c .before .if1 .left) (c .if2 .taken))
-
-first-or-zero-requires : tie.Need-first-or-zero-requires
-first-or-zero-requires c κs = search needs
-
-first-or-zero-requires-2 : tie.Need-first-or-zero-requires-2
-first-or-zero-requires-2 c κs = search needs
-
-judge-requires : tie.Need-judge-requires
-judge-requires c κs = search needs
-
-enum-known-judged : tie.Need-enum-known-judged
-enum-known-judged c = search needs
-
-returns-3 : tie.Need-returns-3
-returns-3 c =
-    let j = c .before .before .before in
-    let a = j .before .before .before .before .before .before .before .before .args in
-    refuses (a .answers .now) (tests-refuse (a .plan) (a .shift) (a .level) (a .m) (a .a) (a .block) (a .columns .now) (a .rows .now)
-    (a .answers .now) (j .before .before .before .before .if1 .left) (j .before .before .before .if2 .left) (sym (judged j) ∙ ap of-judgement (c .before .judged .given .1)))
 
 enum-told : tie.Need-enum-told
 enum-told c = search needs
