@@ -4,8 +4,8 @@ use mathlib.Core.List.{List}
 use Prim.Native.Nat.{ℕ, _+_, _-_, _*_, _^_, _<_}
 use native.Mathlib.Nat.{lt-of-lt-of-le, pow-le-pow-right}
 use native.Mathlib.Omega.{arith}
-use Rattle.digits.proofs.Digit.{pow-pos}
 use Rattle.ranges.specs.Unique.{Only}
+use Rattle.digits.proofs.Digit.{pow-pos}
 use Rattle.linear.specs.Prime.{Prime}
 use Rattle.net.specs.Generators.{Generators}
 use Rattle.net.specs.Sequence.{Sequence, VisitIn, Finds, Apart, Least}

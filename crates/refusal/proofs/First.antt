@@ -1,4 +1,5 @@
--- Laws of the ordered tests: how the first of them decides; of what is granted, of what is left in lent memory, and of what comes after. Assumes nothing.
+-- Laws of the ordered tests: how the first of them decides; of what is granted, of what is left in lent memory, and of what comes after.
+-- Assumes nothing.
 use mathlib.Core.Path.{_≡_, refl, sym, ap, _∙_}
 use mathlib.Core.Bool.{Bool, true, false}
 use mathlib.Core.List.{List, [], _∷_, _++_}

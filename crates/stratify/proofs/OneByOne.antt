@@ -11,7 +11,8 @@ use Rattle.refusal.proofs.First.{first-none, first-passes, accepted-refused, ac
 use Rattle.plan.specs.declared.pair.Plan.{Plan}
 use Rattle.plan.specs.declared.points.Shift.{Shift}
 use Rattle.stratify.specs.Answers.{query-outcome}
-use Rattle.stratify.specs.Overview.{buffers-differ, before, one-by-one, cells-outcome, overview-outcome, EachAnswers, EarliestRefused, ByQueries}
+use Rattle.stratify.specs.Overview.{buffers-differ, and-others, one-by-one, cells-outcome, overview-outcome}
+use Rattle.stratify.specs.Overview.{EachAnswers, EarliestRefused, ByQueries}
 use Rattle.stratify.proofs.Ordered.{overview-order, empty-query}
 
 -- a refusal does not depend on what would have been handed out
@@ -23,13 +24,13 @@ module _ (one : ℕ → ℕ → Outcome ℕ) where
   -- ---- from the overview to the queries
 
   each-answers : (cs rs is : List ℕ) → length cs ≡ length rs → one-by-one one cs rs ≡ accepted is → EachAnswers one cs rs is
-  unfolding one-by-one before
+  unfolding one-by-one and-others
   each-answers [] rs is e h = let none : is ≡ [] = sym (accepted-same h) in record { as-many = ap length none; each = λ i l. absurd (omega arith) }
   each-answers (c ∷ cs) [] is e h = absurd (omega arith)
   each-answers (c ∷ cs) (r ∷ rs) is e h = go (one c r) refl (one-by-one one cs rs) (λ js. each-answers cs rs js (omega arith)) h
     where
       go : (o : Outcome ℕ) → one c r ≡ o → (q : Outcome (List ℕ)) → ((js : List ℕ) → q ≡ accepted js → EachAnswers one cs rs js)
-          → before o q ≡ accepted is → EachAnswers one (c ∷ cs) (r ∷ rs) is
+          → and-others o q ≡ accepted is → EachAnswers one (c ∷ cs) (r ∷ rs) is
       go (accepted j) f (accepted js) more g =
           let rest = more js refl in
           let is-are : j ∷ js ≡ is = accepted-same g in
@@ -42,14 +43,15 @@ module _ (one : ℕ → ℕ → Outcome ℕ) where
       go (accepted j) f (refused n vs) more g = absurd (accepted-refused (sym g))
       go (refused n vs) f q more g = absurd (accepted-refused (sym g))
 
-  earliest-refused : (cs rs : List ℕ) (n : ℕ) (vs : List ℕ) → length cs ≡ length rs → one-by-one one cs rs ≡ refused n vs → EarliestRefused one cs rs n vs
-  unfolding one-by-one before kept
+  earliest-refused : (cs rs : List ℕ) (n : ℕ) (vs : List ℕ) → length cs ≡ length rs → one-by-one one cs rs ≡ refused n vs
+      → EarliestRefused one cs rs n vs
+  unfolding one-by-one and-others kept
   earliest-refused [] rs n vs e h = absurd (accepted-refused h)
   earliest-refused (c ∷ cs) [] n vs e h = absurd (omega arith)
   earliest-refused (c ∷ cs) (r ∷ rs) n vs e h = go (one c r) refl (one-by-one one cs rs) (λ k ws. earliest-refused cs rs k ws (omega arith)) h
     where
       go : (o : Outcome ℕ) → one c r ≡ o → (q : Outcome (List ℕ)) → ((k : ℕ) (ws : List ℕ) → q ≡ refused k ws → EarliestRefused one cs rs k ws)
-          → before o q ≡ refused n vs → EarliestRefused one (c ∷ cs) (r ∷ rs) n vs
+          → and-others o q ≡ refused n vs → EarliestRefused one (c ∷ cs) (r ∷ rs) n vs
       go (accepted j) f (accepted js) more g = absurd (accepted-refused g)
       go (accepted j) f (refused k ws) more g =
           let rest = more n vs g in
@@ -66,24 +68,24 @@ module _ (one : ℕ → ℕ → Outcome ℕ) where
   -- ---- and back
 
   all-answer : (cs rs is : List ℕ) → length cs ≡ length rs → EachAnswers one cs rs is → one-by-one one cs rs ≡ accepted is
-  unfolding one-by-one before
+  unfolding one-by-one and-others
   all-answer [] rs [] e all = refl
   all-answer [] rs (i ∷ is) e all = let many = all .as-many in absurd (omega arith)
   all-answer (c ∷ cs) [] is e all = absurd (omega arith)
   all-answer (c ∷ cs) (r ∷ rs) [] e all = let many = all .as-many in absurd (omega arith)
   all-answer (c ∷ cs) (r ∷ rs) (i ∷ is) e all =
       let many = all .as-many in
-      ap₂ before (all .each 0 (omega arith))
+      ap₂ and-others (all .each 0 (omega arith))
       (all-answer cs rs is (omega arith) (record { as-many = omega arith; each = λ k l. all .each (suc k) (omega arith) }))
 
   stops : (cs rs : List ℕ) (n : ℕ) (vs : List ℕ) (p : ℕ) → length cs ≡ length rs → p < length cs → one (getD cs p 0) (getD rs p 0) ≡ refused n vs
       → ((i : ℕ) → i < p → (index : ℕ) × (one (getD cs i 0) (getD rs i 0) ≡ accepted index)) → one-by-one one cs rs ≡ refused n vs
-  unfolding one-by-one before
+  unfolding one-by-one and-others
   stops [] rs n vs p e l h more = absurd (omega arith)
   stops (c ∷ cs) [] n vs p e l h more = absurd (omega arith)
-  stops (c ∷ cs) (r ∷ rs) n vs zero e l h more = ap (λ (o : Outcome ℕ). before o (one-by-one one cs rs)) h
+  stops (c ∷ cs) (r ∷ rs) n vs zero e l h more = ap (λ (o : Outcome ℕ). and-others o (one-by-one one cs rs)) h
   stops (c ∷ cs) (r ∷ rs) n vs (suc p) e l h more =
-      ap₂ before (more 0 (omega arith) .1) (stops cs rs n vs p (omega arith) (omega arith) h (λ i k. more (suc i) (omega arith)))
+      ap₂ and-others (more 0 (omega arith) .1) (stops cs rs n vs p (omega arith) (omega arith) h (λ i k. more (suc i) (omega arith)))
 
 pub buffers-match : (cs rs answers : List ℕ) → length cs ≡ length rs → length cs ≡ length answers → buffers-differ cs rs answers .holds ≡ false
 buffers-match cs rs answers e f =

@@ -17,19 +17,19 @@ use Rattle.plan.specs.declared.pair.Plan.{Plan}
 use Rattle.plan.specs.declared.points.Shift.{Shift}
 use Rattle.plan.specs.Pair.{generators, scrambling, sequence, unknown-level}
 use Rattle.stratify.specs.Answers.{above-level, not-a-shape, not-a-cell, not-a-block, query-tests, of-location, query-outcome}
-use Rattle.stratify.specs.Overview.{before, one-by-one, shape-outcome, tests-without-cell, cells-outcome, some-outside}
+use Rattle.stratify.specs.Overview.{and-others, one-by-one, shape-outcome, tests-without-cell, cells-outcome, some-outside}
 use Rattle.stratify.specs.Overview.{others-outside, visit-indexes, ordered-outcome}
 use Rattle.stratify.proofs.Tests.{cell-within}
 
--- a query that begins with tests, before others
-before-first : (ts : List Test) (o : Outcome ℕ) (others : Outcome (List ℕ)) → before (first ts o) others ≡ first ts (before o others)
-unfolding first before
-before-first [] o others = refl
-before-first (t ∷ ts) o others = go (t .holds) (before-first ts o others)
+-- a query that begins with tests, and then others
+others-first : (ts : List Test) (o : Outcome ℕ) (others : Outcome (List ℕ)) → and-others (first ts o) others ≡ first ts (and-others o others)
+unfolding first and-others
+others-first [] o others = refl
+others-first (t ∷ ts) o others = go (t .holds) (others-first ts o others)
   where
-    go : (b : Bool) → before (first ts o) others ≡ first ts (before o others)
-        → before (elim b [ true ↦ refused (t .number) [] | false ↦ first ts o ]) others
-        ≡ elim b [ true ↦ refused (t .number) [] | false ↦ first ts (before o others) ]
+    go : (b : Bool) → and-others (first ts o) others ≡ first ts (and-others o others)
+        → and-others (elim b [ true ↦ refused (t .number) [] | false ↦ first ts o ]) others
+        ≡ elim b [ true ↦ refused (t .number) [] | false ↦ first ts (and-others o others) ]
     go true more = refl
     go false more = more
 
@@ -52,12 +52,13 @@ module _ (P : Plan) (s : Shift) (level m a k : ℕ) where
 
   -- where the determinant is not 0, each cell has an index or is refused under 6
   others : {d : ℕ} → determinant (generators P) m a ≡ suc d → AllPass (tests-without-cell level m a k) → (cs rs : List ℕ)
-      → one-by-one one cs rs ≡ first (record { number = 6; holds = some-outside m a cs rs } ∷ []) (accepted (visit-indexes (sequence P s) m a k cs rs))
-  unfolding one-by-one some-outside visit-indexes first before locate
+      → one-by-one one cs rs
+      ≡ first (record { number = 6; holds = some-outside m a cs rs } ∷ []) (accepted (visit-indexes (sequence P s) m a k cs rs))
+  unfolding one-by-one some-outside visit-indexes first and-others locate
   others odd all [] rs = refl
   others odd all (c ∷ cs) [] = refl
   others odd all (c ∷ cs) (r ∷ rs) =
-      ap₂ before (six-left all c r ∙ ap (λ (o : Outcome ℕ). first (not-a-cell 2 m a c r ∷ []) o) (rw (odd, locate) refl)) (others odd all cs rs)
+      ap₂ and-others (six-left all c r ∙ ap (λ (o : Outcome ℕ). first (not-a-cell 2 m a c r ∷ []) o) (rw (odd, locate) refl)) (others odd all cs rs)
       ∙ go (not-a-cell 2 m a c r .holds) (some-outside m a cs rs)
     where
       i : ℕ
@@ -66,7 +67,7 @@ module _ (P : Plan) (s : Shift) (level m a k : ℕ) where
       is : List ℕ
       is = visit-indexes (sequence P s) m a k cs rs
 
-      go : (b d : Bool) → before (first (record { number = 6; holds = b } ∷ []) (accepted (index c r)))
+      go : (b d : Bool) → and-others (first (record { number = 6; holds = b } ∷ []) (accepted (index c r)))
           (first (record { number = 6; holds = d } ∷ []) (accepted (visit-indexes (sequence P s) m a k cs rs)))
           ≡ first (record { number = 6; holds = b || d } ∷ []) (accepted (index c r ∷ visit-indexes (sequence P s) m a k cs rs))
       go true d = refl
@@ -87,27 +88,27 @@ module _ (P : Plan) (s : Shift) (level m a k : ℕ) where
       go (suc d) = refl
 
   by-shape : (c r : ℕ) (cs rs : List ℕ) → AllPass (tests-without-cell level m a k)
-      → before (located c r) (one-by-one one cs rs)
+      → and-others (located c r) (one-by-one one cs rs)
       ≡ then (shape-outcome {A = Unit} P m a tt) (first (others-outside m a (c ∷ cs) (r ∷ rs) ∷ [])
       (accepted (visit-indexes (sequence P s) m a k (c ∷ cs) (r ∷ rs))))
-  unfolding shape-outcome then locate visit-indexes before first
+  unfolding shape-outcome then locate visit-indexes and-others first
   by-shape c r cs rs all = go (determinant (generators P) m a) refl
     where
       j : ℕ
       j = least-index (plain (generators P)) m a
 
-      put : (b : Bool) → before (accepted (index c r)) (first (record { number = 6; holds = b } ∷ []) (accepted (visit-indexes
+      put : (b : Bool) → and-others (accepted (index c r)) (first (record { number = 6; holds = b } ∷ []) (accepted (visit-indexes
           (sequence P s) m a k cs rs)))
           ≡ first (record { number = 6; holds = b } ∷ []) (accepted (index c r ∷ visit-indexes (sequence P s) m a k cs rs))
       put true = refl
       put false = refl
 
       go : (d : ℕ) → determinant (generators P) m a ≡ d
-          → before (of-location m a (elim d [ zero ↦ bad-shape j | suc d ↦ found (index c r) ])) (one-by-one one cs rs)
+          → and-others (of-location m a (elim d [ zero ↦ bad-shape j | suc d ↦ found (index c r) ])) (one-by-one one cs rs)
           ≡ then {A = Unit} (elim d [ zero ↦ not-net m a j | suc d ↦ accepted tt ]) (first (others-outside m a (c ∷ cs) (r ∷ rs) ∷ [])
           (accepted (visit-indexes (sequence P s) m a k (c ∷ cs) (r ∷ rs))))
       go zero e = refl
-      go (suc d) e = ap (before (accepted (index c r))) (others e all cs rs) ∙ put (some-outside m a cs rs)
+      go (suc d) e = ap (and-others (accepted (index c r))) (others e all cs rs) ∙ put (some-outside m a cs rs)
 
   -- column 0 and row 0 are a cell of every shape: 6 does not hold
   with-cell : {A : Type 0} (after : Outcome A) → first (query-tests level m a k 0 0) after ≡ first (tests-without-cell level m a k) after
@@ -121,11 +122,12 @@ module _ (P : Plan) (s : Shift) (level m a k : ℕ) where
   -- the theorem
   pub overview-order : (cs rs : List ℕ) → length cs ≡ length rs → cells-outcome P s level m a k cs rs ≡ ordered-outcome P s level m a k cs rs
   unfolding one-by-one some-outside visit-indexes first
-  overview-order [] [] e = first-ext (tests-without-cell level m a k) (λ all. no-cell) ∙ sym (with-cell (then (shape-outcome {A = Unit} P m a tt) (accepted [])))
+  overview-order [] [] e =
+      first-ext (tests-without-cell level m a k) (λ all. no-cell) ∙ sym (with-cell (then (shape-outcome {A = Unit} P m a tt) (accepted [])))
   overview-order [] (r ∷ rs) e = absurd (omega arith)
   overview-order (c ∷ cs) [] e = absurd (omega arith)
   overview-order (c ∷ cs) (r ∷ rs) e =
-      before-first (query-tests level m a k c r) (located c r) (one-by-one one cs rs)
+      others-first (query-tests level m a k c r) (located c r) (one-by-one one cs rs)
       ∙ first-ext (query-tests level m a k c r) (λ all. by-shape c r cs rs (all .0, (all .1 .0, (all .1 .1 .0, (all .1 .1 .1 .1 .0, tt)))))
 
   -- the empty list is judged as column 0 and row 0 would be, which every shape has

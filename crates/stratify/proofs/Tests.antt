@@ -2,18 +2,20 @@
 use mathlib.Core.Path.{_≡_, sym, ap, ap₂, _∙_}
 use mathlib.Core.Logic.{_⊎_, inl, inr}
 use mathlib.Core.Bool.{Bool, true, false, not, _||_}
+use mathlib.Core.List.{[]}
 use Prim.Native.Nat.{ℕ, _-_, _/_, _^_, _≤_, _<_}
 use native.Mathlib.Nat.{div-eq-of-lt}
 use native.Mathlib.Omega.{arith}
-use borrow.Author.Tests.{le-leb, lt-leb, leb-false, ltb-false, eq-eqb, ne-eqb}
+use borrow.Author.Tests.{le-leb, lt-leb, le-ltb, leb-false, ltb-false, eq-eqb, ne-eqb}
 use lib.Dec.{leb, eqb}
 use Rattle.ranges.proofs.Order.{lt-or-ge}
 use Rattle.ranges.proofs.Tests.{neither-holds}
 use Rattle.digits.proofs.Digit.{lt-of-div}
 use Rattle.digits.proofs.Two.{one-lt-two}
-use Rattle.refusal.specs.Outcome.{Outcome, accepted, first}
-use Rattle.refusal.proofs.First.{all-pass}
-use Rattle.plan.proofs.Level.{level-of}
+use Rattle.refusal.specs.Outcome.{Outcome, accepted, refused, first}
+use Rattle.refusal.proofs.First.{first-passes, first-refuses, all-pass}
+use Rattle.plan.specs.Pair.{Level}
+use Rattle.plan.proofs.Level.{level-known, level-of}
 use Rattle.stratify.specs.Answers.{not-a-cell, query-tests, Cell}
 
 pub past-limit : (n w : ℕ) → (n / 2 ^ w ≡ 0 → ⊥) → 2 ^ w ≤ n
@@ -41,6 +43,15 @@ row-decides m a c r l = go (lt-or-ge r (2 ^ (m - a)))
     go (inl h) = ap not (eq-eqb (r / 2 ^ (m - a)) 0 (div-eq-of-lt h)) ∙ sym (cell-within m a c r l h)
     go (inr h) =
         ap not (ne-eqb (r / 2 ^ (m - a)) 0 (λ e. let g = lt-of-div one-lt-two (m - a) r e in omega arith)) ∙ sym (row-past m a c r l h)
+
+-- 6 comes before 7, whatever the block
+pub cell-first : {A : Type 0} (after : Outcome A) (level m a k c r : ℕ) → Level level → m ≤ level → a ≤ m → not-a-cell 2 m a c r .holds ≡ true
+    → first (query-tests level m a k c r) after ≡ refused 6 []
+cell-first after level m a k c r known size wide outside =
+    first-passes after 2 _ (level-known level known)
+    ∙ first-passes after 4 _ (le-ltb level m size)
+    ∙ first-passes after 5 _ (le-ltb m a wide)
+    ∙ first-refuses after 6 _ outside
 
 -- the cell that a query's tests let through
 pub cell-of : (level m a k c r : ℕ) → _≡_ {A = Outcome Unit} (first (query-tests level m a k c r) (accepted tt)) (accepted tt) → Cell 32 m a k c r

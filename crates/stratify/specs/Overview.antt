@@ -22,15 +22,15 @@ use Rattle.stratify.specs.Answers.{above-level, not-a-shape, not-a-cell,
 abbrev pub buffers-differ : List ℕ → List ℕ → List ℕ → Test
 buffers-differ cs rs answers = record { number = 8; holds = lengths-differ cs rs .holds || lengths-differ cs answers .holds }
 
--- an answer before the others; the earliest refusal stands
-unfoldable pub before : Outcome ℕ → Outcome (List ℕ) → Outcome (List ℕ)
-before (accepted i) (accepted is) = accepted (i ∷ is)
-before (accepted i) (refused n vs) = refused n vs
-before (refused n vs) others = refused n vs
+-- an answer and then the others; the earliest refusal stands
+unfoldable pub and-others : Outcome ℕ → Outcome (List ℕ) → Outcome (List ℕ)
+and-others (accepted i) (accepted is) = accepted (i ∷ is)
+and-others (accepted i) (refused n vs) = refused n vs
+and-others (refused n vs) others = refused n vs
 
 -- what single queries of the cells come to, in list order, as far as both lists go
 unfoldable pub one-by-one : (ℕ → ℕ → Outcome ℕ) → List ℕ → List ℕ → Outcome (List ℕ)
-one-by-one one (c ∷ cs) (r ∷ rs) = before (one c r) (one-by-one one cs rs)
+one-by-one one (c ∷ cs) (r ∷ rs) = and-others (one c r) (one-by-one one cs rs)
 one-by-one one [] rs = accepted []
 one-by-one one (c ∷ cs) [] = accepted []
 

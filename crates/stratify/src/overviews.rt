@@ -18,8 +18,8 @@ ghost use lib.ListN.{length, getD};
 ghost use Rattle.net.specs.Generators.{Valid};
 ghost use Rattle.refusal.specs.Outcome.{accepted, then, part-left};
 ghost use Rattle.refusal.specs.Refusal.{of-judgement};
-ghost use Rattle.elimination.specs.Elimination.{ShapeInverse};
 ghost use Rattle.plan.specs.Pair.{generators, sequence, largest-level};
+ghost use Rattle.elimination.specs.Elimination.{ShapeInverse};
 ghost use Rattle.stratify.specs.Answers.{Cell, ShiftFits};
 ghost use Rattle.stratify.specs.Overview.{AllInside, others-outside, overview-outcome, visit-indexes};
 
@@ -104,14 +104,9 @@ pub fn overview(
     if n != answers.len() {
         return Judgement::Refused(Refusal::BufferLengths);
     }
-    let judged = judge(
-        level,
-        m,
-        a,
-        first_or_zero(columns),
-        first_or_zero(rows),
-        block,
-    );
+    let column = first_or_zero(columns);
+    let row = first_or_zero(rows);
+    let judged = judge(level, m, a, column, row, block);
     match judged {
         Judgement::Refused(why) => {
             return Judgement::Refused(why);

@@ -77,7 +77,9 @@ add-clear : tie.Need-add-clear Inv-loop μ-loop
 add-clear c = omega arith
 
 clear-requires : tie.Need-clear-requires Inv-loop μ-loop
-clear-requires c κs = (c .before .before .if1 .left, c .before .before .before .before .before .before .before .before .pre, omega arith, c .before .before .before .before .before .loop .inv .1)
+clear-requires c κs =
+    let l = c .before .before .before .before .before in
+    (c .before .before .if1 .left, l .before .before .before .pre, omega arith, l .loop .inv .1)
 
 slice-aggregate-clear-3 : tie.Need-slice-aggregate-clear-3 Inv-loop μ-loop
 slice-aggregate-clear-3 c = sym (c .before .before .before .before .before .before .before .before .before .loop .inv .2 .0)
@@ -86,7 +88,9 @@ slice-aggregate-clear-4 : tie.Need-slice-aggregate-clear-4 Inv-loop μ-loop
 slice-aggregate-clear-4 c = sym (c .before .before .before .before .before .before .before .before .before .before .loop .inv .2 .1)
 
 clear-requires-2 : tie.Need-clear-requires-2 Inv-loop μ-loop
-clear-requires-2 c κs = (c .before .before .before .before .before .before .before .if1 .left, c .before .before .before .before .before .before .before .before .before .before .before .before .before .pre, omega arith, c .before .before .before .before .before .before .before .before .before .before .loop .inv .2)
+clear-requires-2 c κs =
+    let l = c .before .before .before .before .before .before .before .before .before .before in
+    (c .before .before .before .before .before .before .before .if1 .left, l .before .before .before .pre, omega arith, l .loop .inv .2)
 
 add-c : tie.Need-add-c Inv-loop μ-loop
 add-c c = omega arith
@@ -96,15 +100,17 @@ loop-less c = omega arith
 
 loop-again : tie.Need-loop-again Inv-loop μ-loop
 loop-again c =
-    let l = c .before .before .before .before .before .before .before .before .before .before .before .before .before .loop in
-    let short = c .before .before .before .before .before .before .before .before .before .before .before .before .before .before .before .before .pre in
+    let i = c .before .before .before .before .before .before .before .before .before .before in
+    let t = i .before .before .before in
+    let l = t .loop in
+    let short = t .before .before .before .pre in
     let p = c .before .before .before .before .before .before .before .clear in
     let q = c .before .before .clear2 in (
       omega arith,
       (p .kept .0 ∙ l .inv .1 .0, p .kept .1 .0 ∙ l .inv .1 .1),
       (q .kept .0 ∙ l .inv .2 .0, q .kept .1 .0 ∙ l .inv .2 .1),
       pending-more (product-additive one-lt-two _) (l .inv .3) (omega arith) (p .last .0) (p .last .1 .0) (q .last .0) (q .last .1 .0) _ _
-          refl refl (c .before .before .before .before .before .before .before .before .before .before .if1 .left) (p .ensures) (q .ensures) (omega arith),
+          refl refl (i .if1 .left) (p .ensures) (q .ensures) (omega arith),
     )
 
 returns-2 : tie.Need-returns-2 Inv-loop μ-loop

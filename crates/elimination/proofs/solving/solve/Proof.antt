@@ -120,7 +120,8 @@ loop-again c =
             ∙ sym (p .ensures .index (l .c + 1) (omega arith) h),
       ),
       pending-more (product-additive one-lt-two _) (l .inv .3) (omega arith) (p .last .0) (p .last .1 .0) _ _ (l .pivot .word) (l .pivot .index)
-          w i (c .before .before .before .before .before .before .before .if1 .left) (p .ensures) (clears-one (c .cleared2 .ensures .0) (c .cleared2 .ensures .1)) (omega arith),
+          w i (c .before .before .before .before .before .before .before .if1 .left) (p .ensures)
+          (clears-one (c .cleared2 .ensures .0) (c .cleared2 .ensures .1)) (omega arith),
     )
 
 returns-2 : tie.Need-returns-2 Inv-loop μ-loop

@@ -2,9 +2,9 @@
 -- Assumes nothing.
 use borrow.Author.Needs.{needs}
 use Rattle.net.specs.Sequence.{point}
+use Rattle.refusal.proofs.First.{refused-leaves, accepted-hands}
 use Rattle.plan.specs.Pair.{sequence}
 use Rattle.unit.specs.Singles.{singles-of}
-use Rattle.refusal.proofs.First.{refused-leaves, accepted-hands}
 use Rattle.answers.proofs.Outcomes.{refused-answer, accepted-answer}
 use Rattle.pair_calls.proofs.Loading.{stops, gives}
 use Rattle.pair_calls.proofs.points.point_singles.Statement.{statement}

@@ -17,7 +17,8 @@ abbrev μ-loop : tie.MeasureT-loop
 μ-loop m a columns rows i₀ i = length columns - i
 
 -- the cell at hand decides, or those after it do
-decided : (c : tie.After-outside Inv-loop μ-loop) (b : Bool) → c .outside .result ≡ b → let s = c .before .before .before .before .before .before .before in let l = c .before .before .before .before .loop in
+decided : (c : tie.After-outside Inv-loop μ-loop) (b : Bool) → c .outside .result ≡ b
+    → let s = c .before .before .before .before .before .before .before in let l = c .before .before .before .before .loop in
     some-outside (s .args .m) (s .args .a) (drop 1 (s .args .columns .now)) (drop 1 (s .args .rows .now))
     ≡ (b || some-outside (s .args .m) (s .args .a) (drop (suc (l .i)) (s .args .columns .now)) (drop (suc (l .i)) (s .args .rows .now)))
 decided c b e =

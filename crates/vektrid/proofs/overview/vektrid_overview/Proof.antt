@@ -42,7 +42,8 @@ valued k old {o} same came value =
 left-there : (old : List ℕ) {o q : Outcome (List ℕ)} → o ≡ q → {new : List ℕ} → new ≡ part-left o (λ is. is) old → new ≡ part-left q (λ is. is) old
 left-there old same left = left ∙ ap (λ (p : Outcome (List ℕ)). part-left p (λ is. is) old) same
 
-goes-through : (c : tie.After-pair-plan) → with-plan (c .before .before .before .before .before .before .before) (c .pair-plan .result) ≡ outcome (c .before .before .before .before .before .before .before)
+goes-through : (c : tie.After-pair-plan) → let s = c .before .before .before .before .before .before .before in
+    with-plan s (c .pair-plan .result) ≡ outcome s
 goes-through c =
     let s = c .before .before .before .before .before .before .before in
     ap (with-plan s) (c .pair-plan .ensures) ∙ sym (goes-on (s .args .words .now) (c .before .before .pair-answer .ensures) _ (c .before .if1 .left))

@@ -7,8 +7,8 @@ use lib.IntN.{ℤ}
 use mir.Syntax.{w32}
 use mir.Val.{SFits, toZ, ofZ}
 use mir.ValLaws.{toZ-ofZ}
-use Rattle.stage.specs.Region.{of-placed}
 use Rattle.refusal.proofs.First.{refused-leaves, accepted-hands}
+use Rattle.stage.specs.Region.{of-placed}
 use Rattle.answers.proofs.Outcomes.{refused-answer, accepted-answer}
 use Rattle.vektrid.specs.Regions.{region-position-outcome}
 use Rattle.vektrid.proofs.positions.vektrid_position.Statement.{statement}

@@ -2,8 +2,8 @@
 -- Assumes nothing.
 use mathlib.Core.Path.{sym, ap, _∙_}
 use borrow.Author.Needs.{needs}
-use Rattle.plan.specs.Walk.{of-opened}
 use Rattle.refusal.proofs.First.{refused-leaves, accepted-hands}
+use Rattle.plan.specs.Walk.{of-opened}
 use Rattle.answers.proofs.Outcomes.{refused-answer, accepted-answer}
 use Rattle.vektrid.proofs.walks.vektrid_walk_open.Statement.{statement}
 use Rattle.vektrid.proofs.walks.vektrid_walk_open.Tie as tie
