@@ -8,8 +8,9 @@ use native.Mathlib.Omega.{arith}
 use lib.Bits.{bitAnd, bitXor, and-zero-r, and-mask, and-high}
 use lib.Count.{trailingZeros}
 use lib.ListN.{length, getD, set, length-set}
-use lib.Seq.{getD-set-same, getD-set-other}
+use lib.Seq.{getD-set-other}
 use Rattle.ranges.proofs.Order.{lt-or-ge}
+use Rattle.ranges.proofs.Written.{written}
 use Rattle.digits.proofs.Digit.{pow-pos, pow-one}
 use Rattle.digits.proofs.Two.{one-lt-two}
 use Rattle.word.proofs.Turn.{one-shifted}
@@ -81,11 +82,8 @@ clearing-none by along from words indexes h k = record {
 -- one list: an element more is set
 put-at : (l : List ℕ) (from at x : ℕ) → at < length l → (f : ℕ → ℕ) → ((d : ℕ) → from ≤ d → d < at → getD l d 0 ≡ f d) → x ≡ f at
     → (d : ℕ) → from ≤ d → d < at + 1 → getD (set l at x) d 0 ≡ f d
-put-at l from at x room f old is d low high = go (lt-or-ge d at)
-  where
-    go : (d < at) ⊎ (at ≤ d) → getD (set l at x) d 0 ≡ f d
-    go (inl h) = getD-set-other l at d x 0 (λ e. omega (arith, e, h)) ∙ old d low h
-    go (inr h) = let e : d ≡ at = omega arith in rw e (getD-set-same l at x 0 room ∙ is)
+put-at l from at x room f old is d low high =
+    written 0 (λ e v. from ≤ e → v ≡ f e) l at x room (λ e h k. old e k h) (λ k. is) d high low
 
 -- and the others are as they were
 kept-at : (l l′ : List ℕ) (from at x : ℕ) → Stays from at l l′ → from ≤ at → Stays from (at + 1) l (set l′ at x)
@@ -171,5 +169,5 @@ putting-none f words h = record { long = h; each = λ c l. absurd (omega arith) 
 pub putting-more : {f : ℕ → ℕ} {n : ℕ} {words : List ℕ} → Putting f n words → n < 32 → (word : ℕ) → word ≡ f n → Putting f (n + 1) (set words n word)
 putting-more {f} {n} {words} now room word e = record {
   long = length-set words n word ∙ now .long;
-  each = λ c. put-at words 0 n word (omega (arith, now .long)) f (λ d low. now .each d) e c (omega arith);
+  each = written 0 (λ c v. v ≡ f c) words n word (omega (arith, now .long)) (now .each) e;
 }

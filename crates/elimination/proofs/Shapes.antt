@@ -6,7 +6,6 @@ use Prim.Native.Nat.{ℕ, _+_, _-_, _*_, _/_, _^_, _≤_, _<_}
 use native.Mathlib.Omega.{arith}
 use lib.ListN.{getD}
 use Rattle.ranges.proofs.Order.{lt-or-ge}
-use Rattle.digits.proofs.Digit.{pow-pos}
 use Rattle.digits.proofs.Two.{one-lt-two}
 use Rattle.linear.proofs.Prime.{two}
 use Rattle.net.specs.Sequence.{Share, Alone, Apart, Least}

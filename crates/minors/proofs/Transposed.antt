@@ -1,14 +1,9 @@
--- A row of a matrix as a word, bit by bit from the highest, and words written from the front of an array. Assumes nothing.
-use mathlib.Core.Path.{_≡_, sym, ap, subst, _∙_}
-use mathlib.Core.Logic.{_⊎_, inl, inr}
-use mathlib.Core.List.{List}
+-- A row of a matrix as a word, bit by bit from the highest. Assumes nothing.
+use mathlib.Core.Path.{_≡_, ap, _∙_}
 use Prim.Native.Nat.{ℕ, zero, suc, _+_, _-_, _*_, _^_, _≤_, _<_}
 use native.Mathlib.Nat.{pow-suc, lt-of-lt-of-le}
 use native.Mathlib.Omega.{arith}
-use lib.ListN.{length, getD, set}
 use lib.Pow.{pow-mono}
-use lib.Seq.{getD-set-same, getD-set-other}
-use Rattle.ranges.proofs.Order.{lt-or-ge}
 use Rattle.digits.specs.Digits.{digit}
 use Rattle.digits.proofs.Digit.{pow-pos, digit-cons-low, digit-cons-suc}
 use Rattle.digits.proofs.Two.{one-lt-two}
@@ -43,14 +38,3 @@ module _ {d : ℕ → ℕ} where
 
     pub from-all : c ≡ 0 → (k : ℕ) → k < 32 → digit 2 k word ≡ d k
     from-all z k h = let e : c + k ≡ k = omega arith in now .bits k (omega arith) ∙ ap d e
-
--- each of the first t words of an array has P, and one more
-pub written : (P : ℕ → ℕ → Type 0) (out : List ℕ) (t x : ℕ) → t < length out → ((s : ℕ) → s < t → P s (getD out s 0)) → P t x
-    → (s : ℕ) → s < t + 1 → P s (getD (set out t x) s 0)
-written P out t x room old here s h = go (lt-or-ge s t)
-  where
-    go : (s < t) ⊎ (t ≤ s) → P s (getD (set out t x) s 0)
-    go (inl l) = subst (P s) (sym (getD-set-other out t s x 0 (omega arith))) (old s l)
-    go (inr l) =
-        let e : s ≡ t = omega arith in
-        rw e (subst (P t) (sym (getD-set-same out t x 0 room)) here)

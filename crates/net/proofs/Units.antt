@@ -1,6 +1,6 @@
 -- An additive map is told by what it makes of the powers of the base; and the solution by a basis is additive in what is asked for, so that
 -- the solutions for the powers tell all. Assumes nothing.
-use mathlib.Core.Path.{_≡_, refl, sym, ap, ap₂, _∙_}
+use mathlib.Core.Path.{_≡_, sym, ap, ap₂, _∙_}
 use mathlib.Core.List.{List, [], _∷_}
 use Prim.Native.Nat.{ℕ, zero, suc, _/_, _%_, _^_, _<_}
 use native.Mathlib.Nat.{pow-zero, pow-succ', div-lt-iff-lt-mul, mod-lt, div-add-mod'}

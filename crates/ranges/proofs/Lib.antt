@@ -6,6 +6,7 @@ pub mod Search
 pub mod Range
 pub mod Count
 pub mod Filled
+pub mod Written
 pub mod Skip
 pub mod Pigeon
 pub mod Walk

@@ -23,7 +23,7 @@ module _ {x y : List ℕ} {m a : ℕ} (shape : Shape (pair x y) m a) (s t : ℕ)
   fits = scrambled-fits (plain-fits (shape .valid)) (record { x = shift-lawful one-lt-two 32 s hs; y = shift-lawful one-lt-two 32 t ht })
 
   module _ (k c r : ℕ) (hc : c < 2 ^ a) (hr : r < 2 ^ (m - a)) where
-    pub cell-lt : plain-interval (shifted (pair x y) s t) m a k c r < 2 ^ m
+    cell-lt : plain-interval (shifted (pair x y) s t) m a k c r < 2 ^ m
     cell-lt = plain-interval-lt one-lt-two fits m a (shape .wide) (shape .fits) k c r hc hr
 
     pub cell-fits : plain-interval (shifted (pair x y) s t) m a k c r < 2 ^ 32

@@ -1,8 +1,8 @@
 -- `numbers::least_left`: of all refusals only 3 has values (`no-values`).
 -- Assumes nothing.
-use mathlib.Core.Path.{_≡_, sym, ap, _∙_}
+use mathlib.Core.Path.{ap, _∙_}
 use borrow.Author.Needs.{needs}
-use Rattle.refusal.specs.Outcome.{Outcome, refused}
+use Rattle.refusal.specs.Outcome.{refused}
 use Rattle.refusal.specs.Refusal.{number, of-refusal, of-judgement}
 use Rattle.answers.proofs.Outcomes.{refused-gives, accepted-leaves}
 use Rattle.answers.proofs.Refusals.{no-values}

@@ -1,6 +1,6 @@
 -- `unit_words`: after t turns the first t words are there.
 use mathlib.Core.Path.{_≡_, refl}
-use Prim.Native.Nat.{ℕ, _-_, _^_, _≤_}
+use Prim.Native.Nat.{_-_, _^_, _≤_}
 use native.Mathlib.Omega.{arith}
 use Rattle.word.proofs.Turn.{one-shifted}
 use Rattle.elimination.proofs.Entries.{Putting, putting-none, putting-more}

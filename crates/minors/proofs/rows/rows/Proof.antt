@@ -3,8 +3,8 @@ use mathlib.Core.Path.{_≡_, refl}
 use Prim.Native.Nat.{ℕ, _-_, _≤_, _<_}
 use native.Mathlib.Omega.{arith}
 use lib.ListN.{length, getD, length-set}
+use Rattle.ranges.proofs.Written.{written}
 use Rattle.minors.specs.Minors.{IsRow}
-use Rattle.minors.proofs.Transposed.{written}
 use Rattle.minors.proofs.rows.rows.Statement.{statement}
 use Rattle.minors.proofs.rows.rows.Tie as tie
 
@@ -38,8 +38,11 @@ loop-less c = omega arith
 loop-again : tie.Need-loop-again Inv-loop μ-loop
 loop-again c =
     let columns = c .before .before .before .args .columns in
-    let l = c .before .before .loop in
-    (omega arith, simp length-set (l .inv .1), written (IsRow columns) (l .words) (l .r) (c .row .result) (omega arith) (l .inv .2) (c .row .ensures))
+    let l = c .before .before .loop in (
+      omega arith,
+      simp length-set (l .inv .1),
+      written 0 (IsRow columns) (l .words) (l .r) (c .row .result) (omega arith) (l .inv .2) (c .row .ensures),
+    )
 
 returns : tie.Need-returns Inv-loop μ-loop
 returns c = λ r h. c .before .loop .inv .2 r (omega arith)

@@ -4,9 +4,9 @@ use Prim.Native.Nat.{ℕ, _-_, _≤_, _<_}
 use native.Mathlib.Omega.{arith}
 use borrow.Author.Needs.{needs}
 use lib.ListN.{length, getD, length-set}
+use Rattle.ranges.proofs.Written.{written}
 use Rattle.word.proofs.Turn.{times-bit-fits}
 use Rattle.minors.specs.Minors.{bit-cleared}
-use Rattle.minors.proofs.Transposed.{written}
 use Rattle.minors.proofs.scan.clear.Statement.{statement}
 use Rattle.minors.proofs.scan.clear.Tie as tie
 
@@ -50,7 +50,7 @@ loop-again c =
     let room : l .t < length (l .out) = omega arith in (
       omega arith,
       simp length-set (l .inv .1),
-      written (λ s w. w ≡ bit-cleared (a .by) (a .c) (getD (a .t1) s 0)) (l .out) (l .t) _ room (l .inv .2) refl,
+      written 0 (λ s w. w ≡ bit-cleared (a .by) (a .c) (getD (a .t1) s 0)) (l .out) (l .t) _ room (l .inv .2) refl,
     )
 
 returns : tie.Need-returns Inv-loop μ-loop

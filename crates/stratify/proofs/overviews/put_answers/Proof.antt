@@ -1,14 +1,12 @@
 -- `put_answers`: the answers of the cells passed are put.
-use mathlib.Core.Path.{_≡_, refl, sym, ap, _∙_}
-use mathlib.Core.Logic.{_⊎_, inl, inr, _≢_}
+use mathlib.Core.Path.{_≡_, refl, ap, _∙_}
 use mathlib.Core.List.{List}
 use Prim.Native.Nat.{ℕ, _+_, _-_, _*_, _%_, _^_, _≤_, _<_}
 use native.Mathlib.Omega.{arith}
 use borrow.Author.Needs.{needs}
 use lib.Bits.{bitXor}
-use lib.ListN.{length, getD, set, length-set}
-use lib.Seq.{getD-set-same, getD-set-other}
-use Rattle.ranges.proofs.Order.{lt-or-ge}
+use lib.ListN.{length, getD, length-set}
+use Rattle.ranges.proofs.Written.{written}
 use Rattle.net.specs.Generators.{product}
 use Rattle.net.specs.Shape.{Shape}
 use Rattle.net.specs.Elimination.{plain-interval}
@@ -28,15 +26,6 @@ Inv-loop inverse m a block columns rows answers₀ origin base i₀ answers i = 
 
 abbrev μ-loop : tie.MeasureT-loop
 μ-loop inverse m a block columns rows answers₀ origin base i₀ answers i = length columns - i
-
--- one answer more
-more : (f : ℕ → ℕ) (answers : List ℕ) (i x : ℕ) → i < length answers → ((d : ℕ) → d < i → getD answers d 0 ≡ f d) → x ≡ f i
-    → (d : ℕ) → d < i + 1 → getD (set answers i x) d 0 ≡ f d
-more f answers i x room old e d h = go (lt-or-ge d i)
-  where
-    go : (d < i) ⊎ (i ≤ d) → getD (set answers i x) d 0 ≡ f d
-    go (inl l) = let other : d ≢ i = omega arith in getD-set-other answers i d x 0 other ∙ old d l
-    go (inr g) = let same : d ≡ i = omega arith in rw same (getD-set-same answers i x 0 room ∙ e)
 
 shape : (s : tie.Start Inv-loop μ-loop) → Shape (generators (s .args .plan)) (s .args .m) (s .args .a)
 shape s = record { valid = s .pre .0 .0; wide = s .pre .0 .2 .wide; fits = s .pre .0 .2 .size }
@@ -112,7 +101,8 @@ loop-again c =
     let room : l .i < length (l .answers) = omega (arith, l .inv .1, s .pre .1 .2) in (
       omega arith,
       simp length-set (l .inv .1),
-      more (λ d. bitXor base (product 2 (a .inverse) (own (a .m) (a .a) (a .columns .now) (a .rows .now) d))) (l .answers) (l .i) _ room (l .inv .2)
+      written 0 (λ d v. v ≡ bitXor base (product 2 (a .inverse) (own (a .m) (a .a) (a .columns .now) (a .rows .now) d))) (l .answers) (l .i) _ room
+          (l .inv .2)
           (ap (bitXor base) (c .product2 .ensures ∙ ap (product 2 (a .inverse)) (joined-whole _ _ _ (c .before .join2 .ensures) small))),
     )
 
