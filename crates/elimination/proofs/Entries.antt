@@ -1,4 +1,4 @@
--- Entries cleared at a bit: the code's mask, an entry more, and a part more. Assumes nothing.
+-- Entries cleared at a bit: the code's mask, an entry more, and a part more; and words put one after the other. Assumes nothing.
 use mathlib.Core.Path.{_≡_, refl, sym, ap, ap₂, _∙_}
 use mathlib.Core.Logic.{_⊎_, inl, inr, _≢_}
 use mathlib.Core.List.{List}
@@ -62,15 +62,15 @@ masked-added by w x y hit h e = ap (bitXor y) (ap (bitAnd x) e ∙ masked x (w /
 
 -- ---- an entry more
 
-pub record Clearing (by along from at : ℕ) (words indexes words′ indexes′ : List ℕ) : Type 0 where
-  pub long-words : length words′ ≡ 32
-  pub long-indexes : length indexes′ ≡ 32
+pub record Clearing (room by along from at : ℕ) (words indexes words′ indexes′ : List ℕ) : Type 0 where
+  pub long-words : length words′ ≡ room
+  pub long-indexes : length indexes′ ≡ room
   pub clears : Clears by along from at words indexes words′ indexes′
   pub words-stay : Stays from at words words′
   pub indexes-stay : Stays from at indexes indexes′
 
-pub clearing-none : (by along from : ℕ) (words indexes : List ℕ) → length words ≡ 32 → length indexes ≡ 32
-    → Clearing by along from from words indexes words indexes
+pub clearing-none : {room : ℕ} (by along from : ℕ) (words indexes : List ℕ) → length words ≡ room → length indexes ≡ room
+    → Clearing room by along from from words indexes words indexes
 clearing-none by along from words indexes h k = record {
   long-words = h;
   long-indexes = k;
@@ -97,11 +97,11 @@ kept-at l l′ from at x stays low d o = getD-set-other l′ at d x 0 (apart o) 
     outside (inl h) = inl h
     outside (inr h) = inr (omega arith)
 
-module _ {by along from at : ℕ} {words indexes words′ indexes′ : List ℕ} (now : Clearing by along from at words indexes words′ indexes′)
-    (room : at < 32) (low : from ≤ at) where
+module _ {room by along from at : ℕ} {words indexes words′ indexes′ : List ℕ} (now : Clearing room by along from at words indexes words′ indexes′)
+    (within : at < room) (low : from ≤ at) where
   pub clearing-more : (word index : ℕ) → word ≡ added by (getD words′ at 0) by (getD words′ at 0)
       → index ≡ added by (getD words′ at 0) along (getD indexes′ at 0)
-      → Clearing by along from (at + 1) words indexes (set words′ at word) (set indexes′ at index)
+      → Clearing room by along from (at + 1) words indexes (set words′ at word) (set indexes′ at index)
   clearing-more word index e f = record {
     long-words = length-set words′ at word ∙ now .long-words;
     long-indexes = length-set indexes′ at index ∙ now .long-indexes;
@@ -158,16 +158,17 @@ fewer clears h = record { word = λ d l u. clears .word d l (omega arith); index
 
 -- ---- words put one after the other
 
--- the first n words of a list of 32 are those of f
-pub record Putting (f : ℕ → ℕ) (n : ℕ) (words : List ℕ) : Type 0 where
-  pub long : length words ≡ 32
+-- the first n words of a list with so much room are those of f
+pub record Putting (room : ℕ) (f : ℕ → ℕ) (n : ℕ) (words : List ℕ) : Type 0 where
+  pub long : length words ≡ room
   pub each : (c : ℕ) → c < n → getD words c 0 ≡ f c
 
-pub putting-none : (f : ℕ → ℕ) (words : List ℕ) → length words ≡ 32 → Putting f 0 words
+pub putting-none : {room : ℕ} (f : ℕ → ℕ) (words : List ℕ) → length words ≡ room → Putting room f 0 words
 putting-none f words h = record { long = h; each = λ c l. absurd (omega arith) }
 
-pub putting-more : {f : ℕ → ℕ} {n : ℕ} {words : List ℕ} → Putting f n words → n < 32 → (word : ℕ) → word ≡ f n → Putting f (n + 1) (set words n word)
-putting-more {f} {n} {words} now room word e = record {
+pub putting-more : {room : ℕ} {f : ℕ → ℕ} {n : ℕ} {words : List ℕ} → Putting room f n words → n < room → (word : ℕ) → word ≡ f n
+    → Putting room f (n + 1) (set words n word)
+putting-more {f = f} {n} {words} now within word e = record {
   long = length-set words n word ∙ now .long;
   each = written 0 (λ c v. v ≡ f c) words n word (omega (arith, now .long)) (now .each) e;
 }

@@ -3,7 +3,7 @@ use mathlib.Core.Path.{_≡_, refl, sym, ap, _∙_, subst}
 use mathlib.Core.List.{List, []}
 use Prim.Native.Nat.{ℕ, _-_, _^_, _<_}
 use native.Mathlib.Omega.{arith}
-use lib.ListN.{getD}
+use lib.ListN.{getD, replicate}
 use Rattle.ranges.specs.Below.{Below}
 use Rattle.digits.proofs.Arithmetic.{zero-plus}
 use Rattle.digits.proofs.Two.{one-lt-two}
@@ -14,6 +14,7 @@ use Rattle.net.proofs.Additive.{of-zero}
 use Rattle.net.proofs.Elimination.{Sound, eliminate-sound, eliminate-ends}
 use Rattle.net.proofs.Product.{product-additive, product-lt}
 use Rattle.net.proofs.Units.{solve-additive, product-ext}
+use Rattle.word.specs.Index.{index-bits}
 use Rattle.elimination.specs.Elimination.{KernelIs, Eliminates, Inverts}
 use Rattle.elimination.specs.Basis.{entries}
 use Rattle.elimination.proofs.Refinement.{choice, Pending}
@@ -41,11 +42,19 @@ module _ (columns : List ℕ) (small : Below (2 ^ 32) columns) (m : ℕ) where
           none = λ z. let some = positive in absurd (omega arith);
         }
 
-    pub eliminated-kernel : (asked index : ℕ) → Eliminates columns m asked j index
-    eliminated-kernel asked index = record { kernel-is = kernel-found; found = λ z. let some = positive in absurd (omega arith) }
+    pub eliminated-kernel : (asked : ℕ) → Eliminates columns m asked j 0
+    eliminated-kernel asked = record {
+      kernel-is = kernel-found;
+      no-index = λ n. refl;
+      found = λ z. let some = positive in absurd (omega arith);
+    }
 
-    pub inverted-kernel : (inverse : List ℕ) → Inverts columns m j inverse
-    inverted-kernel inverse = record { kernel-is = kernel-found; back = λ z. let some = positive in absurd (omega arith) }
+    pub inverted-kernel : Inverts columns m j (replicate index-bits 0)
+    inverted-kernel = record {
+      kernel-is = kernel-found;
+      no-inverse = λ n. refl;
+      back = λ z. let some = positive in absurd (omega arith);
+    }
 
   -- a basis inverts the product
   module _ (fs : List BasisEntry) (whole : eliminate 2 L choice m 0 [] ≡ basis fs) where
@@ -77,6 +86,7 @@ module _ (columns : List ℕ) (small : Below (2 ^ 32) columns) (m : ℕ) where
       let (fs, whole, each) = ended now all in
       record {
         kernel-is = kernel-none fs whole;
+        no-index = λ n. absurd (n refl);
         found = λ z i h e. each 0 (omega arith) ∙ ap (solve 2 L fs) (sym e) ∙ back fs whole i h;
       }
 
@@ -87,5 +97,6 @@ module _ (columns : List ℕ) (small : Below (2 ^ 32) columns) (m : ℕ) where
       let (fs, whole, each) = ended now all in
       record {
         kernel-is = kernel-none fs whole;
+        no-inverse = λ n. absurd (n refl);
         back = λ z i h low. product-ext one-lt-two (solve-additive one-lt-two additive fs) found m each (L i) low ∙ back fs whole i h;
       }

@@ -40,14 +40,16 @@ pub record KernelIs (columns : List ℕ) (m kernel : ℕ) : Type 0 where
 
 -- ---- what is asked for
 
--- the index for one word: where an index of m digits has this word as its product, it is that index
+-- the index for one word: where an index of m digits has this word as its product, it is that index; where there is a kernel, it is 0
 pub record Eliminates (columns : List ℕ) (m asked kernel index : ℕ) : Type 0 where
   pub kernel-is : KernelIs columns m kernel
+  pub no-index : kernel ≢ 0 → index ≡ 0
   pub found : kernel ≡ 0 → (i : ℕ) → i < 2 ^ m → product 2 columns i ≡ asked → index ≡ i
 
--- the inverse: its product leads back from each product of m digits
+-- the inverse: its product leads back from each product of m digits; where there is a kernel, it is 0
 pub record Inverts (columns : List ℕ) (m kernel : ℕ) (inverse : List ℕ) : Type 0 where
   pub kernel-is : KernelIs columns m kernel
+  pub no-inverse : kernel ≢ 0 → inverse ≡ replicate index-bits 0
   pub back : kernel ≡ 0 → (i : ℕ) → i < 2 ^ m → product 2 columns i < 2 ^ m → product 2 inverse (product 2 columns i) ≡ i
 
 -- the same for all m: for more columns than there are, all is 0

@@ -6,7 +6,7 @@ ghost use lib.Count.{trailingZeros};
 ghost use Rattle.word.specs.Index.{index-bits};
 ghost use Rattle.elimination.specs.Basis.{part, Long, added, Clears, Stays};
 
-// A word beside the index that it is the product of.
+// A word beside an index. Of a column, the word is the product with the index; of a word asked for, it is what that product leaves of it.
 pub(crate) struct Entry {
     pub word: u32,
     pub index: u32,
@@ -67,8 +67,8 @@ fn clear_part(words: &mut [u32], indexes: &mut [u32], from: usize, pivot: Entry)
     }
 }
 
-// Clears the entries from c up to n. Those before c in the same part, and those from n on in the last, are changed too: nothing reads them
-// again.
+// Clears the entries from c up to n. Those before c in the same part, and those from n on in the last, are changed too; no answer depends
+// on them.
 pub(crate) fn clear(words: &mut [u32], indexes: &mut [u32], c: usize, n: usize, pivot: Entry)
     requires { ⌜ (pivot .word ≢ 0) × (n ≤ index-bits) × (c ≤ n) × Long (now words) (now indexes) ⌝ }
     ensures { λ _. ⌜

@@ -9,8 +9,8 @@ ghost use Prim.Native.Nat.{_≤_};
 ghost use Rattle.word.specs.Index.{index-bits};
 ghost use Rattle.elimination.specs.Elimination.{Inverts, InvertsAny};
 
-// What is found of columns. Either kernel is the least index above 0 whose product is 0, or kernel is 0 and the columns are those of the
-// inverse: their product with a word is the index whose product that word is.
+// What is found of m columns. Either kernel is the least index above 0 whose product is 0, and the columns are 0; or kernel is 0 and the
+// first m columns are those of the inverse: their product with a word of m bits that is the product of an index is that index.
 pub struct Inverse {
     pub kernel: u32,
     pub columns: Columns,

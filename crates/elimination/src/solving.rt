@@ -10,15 +10,16 @@ ghost use Prim.Native.Nat.{_≤_};
 ghost use Rattle.word.specs.Index.{index-bits};
 ghost use Rattle.elimination.specs.Elimination.{Eliminates, EliminatesAny};
 
-// What an elimination finds. Either kernel is the least index above 0 whose product is 0, or kernel is 0 and index is the one whose product
-// was asked for.
+// What an elimination over m columns finds. Either kernel is the least index above 0 whose product is 0, and index is 0; or kernel is 0 and
+// index is the one whose product was asked for, where an index of m bits has that product.
 pub struct Elimination {
     pub kernel: u32,
     pub index: u32,
 }
 
 // Takes the first n columns one after the other as pivots, on a copy of them. A column that is 0 by then is made of those before it, and
-// its index is in the kernel. The next pivot is cleared ahead of the others, so that it does not wait for them.
+// its index is in the kernel. The next pivot is cleared ahead of the others, so that it does not wait for them; after column 31 column 0 is
+// read in its place, and not used.
 fn solve(columns: Columns, n: usize, asked: u32) -> Elimination
     requires { ⌜ n ≤ index-bits ⌝ }
     ensures { λ r. ⌜ Eliminates columns n asked (r .kernel) (r .index) ⌝ }

@@ -61,12 +61,6 @@ module _ (P : Plan) (s : Shift) (level m a k : ℕ) where
       ap₂ and-others (six-left all c r ∙ ap (λ (o : Outcome ℕ). first (not-a-cell 2 m a c r ∷ []) o) (rw (odd, locate) refl)) (others odd all cs rs)
       ∙ go (not-a-cell 2 m a c r .holds) (some-outside m a cs rs)
     where
-      i : ℕ
-      i = index c r
-
-      is : List ℕ
-      is = visit-indexes (sequence P s) m a k cs rs
-
       go : (b d : Bool) → and-others (first (record { number = 6; holds = b } ∷ []) (accepted (index c r)))
           (first (record { number = 6; holds = d } ∷ []) (accepted (visit-indexes (sequence P s) m a k cs rs)))
           ≡ first (record { number = 6; holds = b || d } ∷ []) (accepted (index c r ∷ visit-indexes (sequence P s) m a k cs rs))

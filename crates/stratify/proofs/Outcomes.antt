@@ -3,18 +3,21 @@ use mathlib.Core.Path.{_≡_, refl, sym, ap, _∙_}
 use mathlib.Core.Logic.{_≢_, _↔_}
 use mathlib.Core.Bool.{not}
 use mathlib.Core.List.{List, []}
-use Prim.Native.Nat.{ℕ, _-_, _^_}
-use borrow.Author.Tests.{eq-eqb, le-ltb, lt-leb}
+use Prim.Native.Nat.{ℕ, _-_, _^_, _≤_}
+use native.Mathlib.Omega.{arith}
+use borrow.Author.Tests.{eq-eqb, le-ltb, lt-leb, leb-false, ltb-false}
+use lib.Dec.{leb}
 use lib.ListN.{length}
+use Rattle.ranges.proofs.Tests.{neither-holds}
 use Rattle.net.specs.Check.{Verdict, passed, first-bad, check}
 use Rattle.net.specs.Query.{Location, found, bad-shape, locate}
-use Rattle.refusal.specs.Outcome.{Outcome, accepted, not-net}
-use Rattle.refusal.proofs.First.{first-none, first-passes, accepted-refused}
+use Rattle.refusal.specs.Outcome.{Outcome, accepted, not-net, first}
+use Rattle.refusal.proofs.First.{first-none, first-passes, accepted-refused, all-pass}
 use Rattle.plan.specs.declared.pair.Plan.{Plan}
 use Rattle.plan.specs.declared.points.Shift.{Shift}
 use Rattle.plan.specs.Pair.{generators, scrambling, loaded, Level}
-use Rattle.plan.proofs.Level.{level-known}
-use Rattle.stratify.specs.Answers.{of-verdict, check-outcome, of-location, query-outcome, Cell}
+use Rattle.plan.proofs.Level.{level-known, level-of}
+use Rattle.stratify.specs.Answers.{of-verdict, check-outcome, of-location, query-tests, query-outcome, Cell}
 use Rattle.stratify.proofs.Tests.{cell-within}
 
 -- ---- past the tests
@@ -29,6 +32,21 @@ query-outcome-is P s level m a k c r known cell =
     ∙ first-passes after 6 _ (cell-within m a c r (cell .column) (cell .row))
     ∙ first-passes after 7 [] (lt-leb (2 ^ (32 - m)) k (cell .block))
     ∙ first-none after
+
+-- the cell that a query's tests let through
+pub cell-of : (level m a k c r : ℕ) → _≡_ {A = Outcome Unit} (first (query-tests level m a k c r) (accepted tt)) (accepted tt) → Cell 32 m a k c r
+cell-of level m a k c r e =
+    let all = all-pass (accepted tt) (query-tests level m a k c r) e .0 in
+    let known = level-of level (all .0) .not-above in
+    let size : m ≤ level = ltb-false level m (all .1 .0) in
+    let inside = neither-holds (leb (2 ^ a) c) (leb (2 ^ (m - a)) r) (all .1 .1 .1 .0) in
+    record {
+      size = omega arith;
+      wide = ltb-false m a (all .1 .1 .0);
+      column = leb-false (2 ^ a) c (inside .0);
+      row = leb-false (2 ^ (m - a)) r (inside .1);
+      block = leb-false (2 ^ (32 - m)) k (all .1 .1 .1 .1 .0);
+    }
 
 pub check-outcome-is : (words : List ℕ) (level : ℕ) → length words ≡ 64 → Level level
     → check-outcome words level ≡ of-verdict (check (generators (loaded words)) level)

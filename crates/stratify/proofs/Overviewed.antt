@@ -1,12 +1,14 @@
 -- What an overview comes to at each of its returns. Assumes nothing.
 use mathlib.Core.Path.{_≡_, refl, sym, ap, ap₂, _∙_}
-use mathlib.Core.Logic.{_≢_}
+use mathlib.Core.Logic.{_≢_, _↔_, _⊎_, inl, inr}
 use mathlib.Core.Bool.{Bool, true, false, not, _||_}
 use mathlib.Core.List.{List, [], _∷_}
 use Prim.Native.Nat.{ℕ, zero, suc}
+use native.Mathlib.Omega.{arith}
 use borrow.Author.Tests.{eq-eqb, ne-eqb}
 use lib.Dec.{eqb}
 use lib.ListN.{length, getD}
+use Rattle.ranges.proofs.Order.{eq-or-ne}
 use Rattle.linear.proofs.Prime.{two}
 use Rattle.net.specs.Sequence.{Least}
 use Rattle.net.specs.Scrambling.{plain}
@@ -14,13 +16,14 @@ use Rattle.net.specs.Shape.{Shape, determinant}
 use Rattle.net.specs.Check.{least-index}
 use Rattle.net.proofs.Least.{least-unique, least-index-least, crowded-of-least, zero-of-crowded}
 use Rattle.refusal.specs.Outcome.{Outcome, accepted, refused, not-net, Test, first, part-left, then}
-use Rattle.refusal.proofs.First.{first-none, first-passes, first-refuses, refused-before, passed-before}
+use Rattle.refusal.proofs.First.{first-none, first-passes, first-refuses, first-other, refused-before, passed-before}
+use Rattle.refusal.proofs.First.{accepted-refused, refused-same}
 use Rattle.refusal.proofs.First.{then-accepted, then-refused, refused-leaves, accepted-hands}
 use Rattle.plan.specs.declared.pair.Plan.{Plan}
 use Rattle.plan.specs.declared.points.Shift.{Shift}
 use Rattle.plan.specs.Pair.{generators, sequence}
 use Rattle.stratify.specs.Answers.{query-tests}
-use Rattle.stratify.specs.Overview.{shape-outcome, others-outside, visit-indexes, cells-outcome, overview-outcome}
+use Rattle.stratify.specs.Overview.{shape-outcome, others-outside, visit-indexes, cells-outcome, overview-outcome, ordered-outcome}
 use Rattle.stratify.proofs.Ordered.{overview-order}
 use Rattle.stratify.proofs.OneByOne.{cells-are}
 
@@ -104,3 +107,59 @@ module _ (P : Plan) (s : Shift) (level m a k : ℕ) (cs rs old : List ℕ) where
         all-answered g =
             let answers = accepted (visit-indexes (sequence P s) m a k cs rs) in
             shape-passes ∙ first-passes answers 6 [] g ∙ first-none answers
+
+-- ---- 8, exactly
+
+-- 3 of the shape, or none
+module _ (P : Plan) (m a : ℕ) where
+  abbrev j : ℕ
+  j = least-index (plain (generators P)) m a
+
+  abbrev by-determinant : ℕ → Outcome Unit
+  by-determinant d = elim d [ zero ↦ not-net m a j | suc d ↦ accepted tt ]
+
+  either : (d : ℕ) → (by-determinant d ≡ not-net m a j) ⊎ (by-determinant d ≡ accepted tt)
+  either zero = inl refl
+  either (suc d) = inr refl
+
+  shape-decides : (shape-outcome {A = Unit} P m a tt ≡ not-net m a j) ⊎ (shape-outcome {A = Unit} P m a tt ≡ accepted tt)
+  unfolding shape-outcome
+  shape-decides = either (determinant (generators P) m a)
+
+-- none of the tests after 8 gives it
+module _ (P : Plan) (s : Shift) (level m a k : ℕ) (cs rs : List ℕ) where
+  abbrev answers-of : Outcome (List ℕ)
+  answers-of = accepted (visit-indexes (sequence P s) m a k cs rs)
+
+  abbrev later : Outcome (List ℕ)
+  later = first (others-outside m a cs rs ∷ []) answers-of
+
+  after-shape : (shape-outcome {A = Unit} P m a tt ≡ not-net m a (j P m a)) ⊎ (shape-outcome {A = Unit} P m a tt ≡ accepted tt)
+      → then (shape-outcome {A = Unit} P m a tt) later ≡ refused 8 [] → ⊥
+  after-shape (inl e) h = let z : _≡_ {A = ℕ} 3 8 = refused-same (sym (then-refused later e) ∙ h) in omega arith
+  after-shape (inr e) h =
+      let last = first-other answers-of 6 [] (λ z. omega (arith, z)) _ (sym (then-accepted later e) ∙ h) in
+      accepted-refused (sym (first-none answers-of) ∙ last .1)
+
+  never-eight : ordered-outcome P s level m a k cs rs ≡ refused 8 [] → ⊥
+  never-eight h =
+      let at-2 = first-other _ 2 _ (λ e. omega (arith, e)) _ h .1 in
+      let at-4 = first-other _ 4 _ (λ e. omega (arith, e)) _ at-2 .1 in
+      let at-5 = first-other _ 5 _ (λ e. omega (arith, e)) _ at-4 .1 in
+      let at-6 = first-other _ 6 _ (λ e. omega (arith, e)) _ at-5 .1 in
+      let at-7 = first-other _ 7 [] (λ e. omega (arith, e)) _ at-6 .1 in
+      after-shape (shape-decides P m a) (sym (first-none _) ∙ at-7)
+
+pub lengths-decide : (P : Plan) (s : Shift) (level m a k : ℕ) (cs rs answers : List ℕ)
+    → (overview-outcome P s level m a k cs rs answers ≡ refused 8 []) ↔ ((length cs ≡ length rs) × (length cs ≡ length answers) → ⊥)
+lengths-decide P s level m a k cs rs answers = (
+  λ h (e, f). never-eight P s level m a k cs rs
+      (sym (cells-are P s level m a k cs rs answers e f ∙ overview-order P s level m a k cs rs e) ∙ h),
+  λ differ. go differ (eq-or-ne (length cs) (length rs)) (eq-or-ne (length cs) (length answers)),
+)
+  where
+    go : ((length cs ≡ length rs) × (length cs ≡ length answers) → ⊥) → (length cs ≡ length rs) ⊎ (length cs ≢ length rs)
+        → (length cs ≡ length answers) ⊎ (length cs ≢ length answers) → overview-outcome P s level m a k cs rs answers ≡ refused 8 []
+    go differ (inr ne) other = rows-differ P s level m a k cs rs answers ne
+    go differ (inl e) (inr ne) = answers-differ P s level m a k cs rs answers e ne
+    go differ (inl e) (inl f) = absurd (differ (e, f))

@@ -1,4 +1,4 @@
--- The query's bounds by shifts are the definitions' tests, and what the tests let through. Assumes nothing.
+-- The query's bounds by shifts are the definitions' tests, and which of these decides. Assumes nothing.
 use mathlib.Core.Path.{_≡_, sym, ap, ap₂, _∙_}
 use mathlib.Core.Logic.{_⊎_, inl, inr}
 use mathlib.Core.Bool.{Bool, true, false, not, _||_}
@@ -6,17 +6,16 @@ use mathlib.Core.List.{[]}
 use Prim.Native.Nat.{ℕ, _-_, _/_, _^_, _≤_, _<_}
 use native.Mathlib.Nat.{div-eq-of-lt}
 use native.Mathlib.Omega.{arith}
-use borrow.Author.Tests.{le-leb, lt-leb, le-ltb, leb-false, ltb-false, eq-eqb, ne-eqb}
+use borrow.Author.Tests.{le-leb, lt-leb, le-ltb, eq-eqb, ne-eqb}
 use lib.Dec.{leb, eqb}
 use Rattle.ranges.proofs.Order.{lt-or-ge}
-use Rattle.ranges.proofs.Tests.{neither-holds}
 use Rattle.digits.proofs.Digit.{lt-of-div}
 use Rattle.digits.proofs.Two.{one-lt-two}
-use Rattle.refusal.specs.Outcome.{Outcome, accepted, refused, first}
-use Rattle.refusal.proofs.First.{first-passes, first-refuses, all-pass}
+use Rattle.refusal.specs.Outcome.{Outcome, refused, first}
+use Rattle.refusal.proofs.First.{first-passes, first-refuses}
 use Rattle.plan.specs.Pair.{Level}
-use Rattle.plan.proofs.Level.{level-known, level-of}
-use Rattle.stratify.specs.Answers.{not-a-cell, query-tests, Cell}
+use Rattle.plan.proofs.Level.{level-known}
+use Rattle.stratify.specs.Answers.{not-a-cell, query-tests}
 
 pub past-limit : (n w : ℕ) → (n / 2 ^ w ≡ 0 → ⊥) → 2 ^ w ≤ n
 past-limit n w ne = go (lt-or-ge n (2 ^ w))
@@ -29,7 +28,7 @@ module _ (m a c r : ℕ) where
   pub column-past : 2 ^ a ≤ c → not-a-cell 2 m a c r .holds ≡ true
   column-past h = ap (λ (b : Bool). b || leb (2 ^ (m - a)) r) (le-leb (2 ^ a) c h)
 
-  pub row-past : c < 2 ^ a → 2 ^ (m - a) ≤ r → not-a-cell 2 m a c r .holds ≡ true
+  row-past : c < 2 ^ a → 2 ^ (m - a) ≤ r → not-a-cell 2 m a c r .holds ≡ true
   row-past l h = ap₂ _||_ (lt-leb (2 ^ a) c l) (le-leb (2 ^ (m - a)) r h)
 
   pub cell-within : c < 2 ^ a → r < 2 ^ (m - a) → not-a-cell 2 m a c r .holds ≡ false
@@ -52,18 +51,3 @@ cell-first after level m a k c r known size wide outside =
     ∙ first-passes after 4 _ (le-ltb level m size)
     ∙ first-passes after 5 _ (le-ltb m a wide)
     ∙ first-refuses after 6 _ outside
-
--- the cell that a query's tests let through
-pub cell-of : (level m a k c r : ℕ) → _≡_ {A = Outcome Unit} (first (query-tests level m a k c r) (accepted tt)) (accepted tt) → Cell 32 m a k c r
-cell-of level m a k c r e =
-    let all = all-pass (accepted tt) (query-tests level m a k c r) e .0 in
-    let known = level-of level (all .0) .not-above in
-    let size : m ≤ level = ltb-false level m (all .1 .0) in
-    let inside = neither-holds (leb (2 ^ a) c) (leb (2 ^ (m - a)) r) (all .1 .1 .1 .0) in
-    record {
-      size = omega arith;
-      wide = ltb-false m a (all .1 .1 .0);
-      column = leb-false (2 ^ a) c (inside .0);
-      row = leb-false (2 ^ (m - a)) r (inside .1);
-      block = leb-false (2 ^ (32 - m)) k (all .1 .1 .1 .1 .0);
-    }

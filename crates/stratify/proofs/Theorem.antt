@@ -46,6 +46,7 @@ use Rattle.stratify.specs.Answers.{of-verdict, of-location, check-outcom
 use Rattle.stratify.specs.Theorem.{PlainRelation, VisitedOnce, Covered, RelatedToPlain, Queried, Checked, Lists, GivesRun}
 use Rattle.stratify.specs.Theorem.{StandardPair, Theorems}
 use Rattle.stratify.proofs.OneByOne.{by-queries}
+use Rattle.stratify.proofs.Overviewed.{lengths-decide}
 use Rattle.stratify.proofs.Outcomes.{query-outcome-is, check-outcome-is, verdict-accepted, verdict-not-net, verdict-refuses}
 use Rattle.stratify.proofs.Outcomes.{location-accepted, location-not-net}
 
@@ -243,6 +244,7 @@ theorems = record {
   related = related;
   queried = queried;
   size-zero = size-zero;
+  overview-lengths = lengths-decide;
   overview = by-queries;
   checked = checked;
   accepted-covered = accepted-covered;

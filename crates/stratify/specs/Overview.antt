@@ -92,7 +92,7 @@ pub record EarliestRefused (one : ℕ → ℕ → Outcome ℕ) (cs rs : List ℕ
   pub earlier : (i : ℕ) → i < place → (index : ℕ) × (one (getD cs i 0) (getD rs i 0) ≡ accepted index)
 
 -- Of a list that is not empty, the answers are those of the single queries, and a refusal is that of the earliest refused cell. The empty list
--- is judged as the query of column 0 and row 0, which every shape has. And the order in which the tests may be made.
+-- is judged as the query of column 0 and row 0, which every shape has. The tests may be made in the order of `ordered-outcome`.
 pub record ByQueries (P : Plan) (s : Shift) (level m a k : ℕ) (cs rs answers : List ℕ) : Type 0 where
   pub answered : (is : List ℕ) → 0 < length cs
       → (overview-outcome P s level m a k cs rs answers ≡ accepted is) ↔ EachAnswers (query-outcome P s level m a k) cs rs is

@@ -1,9 +1,9 @@
--- Demand 3 of 01, about the definitions that the contracts cite: `sequence`, `filled`, `step`, `check-outcome`, `query-outcome`. First the
--- statements, as records; at the end `Theorems`, the whole list with the assumptions of each, of which proofs/Theorem gives one term.
--- `sequence P s` is the points of the plan P (01: the pair) under the shift s (01: the scramble).
+-- Demand 3 of 01, and C-14's overview, about the definitions that the contracts cite: `sequence`, `filled`, `step`, `check-outcome`,
+-- `query-outcome`, `overview-outcome`. First the statements, as records; at the end `Theorems`, the whole list with the assumptions of each, of
+-- which proofs/Theorem gives one term. `sequence P s` is the points of the plan P (01: the pair) under the shift s (01: the scramble).
 use mathlib.Core.Path.{_≡_}
 use mathlib.Core.Logic.{_≢_, _↔_}
-use mathlib.Core.List.{List}
+use mathlib.Core.List.{List, []}
 use Prim.Native.Nat.{ℕ, _+_, _-_, _*_, _%_, _^_, _≤_, _<_, min}
 use lib.Bits.{bitXor}
 use lib.ListN.{length, getD, take, drop}
@@ -18,7 +18,7 @@ use Rattle.net.specs.Shape.{determinant, Passes}
 use Rattle.net.specs.Check.{FirstCrowded, FirstZero}
 use Rattle.net.specs.Run.{visit, visits, run, hits}
 use Rattle.net.specs.Standard.{binomial}
-use Rattle.refusal.specs.Outcome.{accepted, not-net}
+use Rattle.refusal.specs.Outcome.{accepted, refused, not-net}
 use Rattle.word.specs.Index.{index-bits, index-count, last-index}
 use Rattle.plan.specs.declared.pair.Plan.{Plan}
 use Rattle.plan.specs.declared.points.Shift.{Shift}
@@ -27,7 +27,7 @@ use Rattle.plan.specs.Fill.{fill-outcome, filled}
 use Rattle.plan.specs.Walk.{open-outcome}
 use Rattle.plan.specs.Lists.{pointed, held, visits-walked}
 use Rattle.stratify.specs.Answers.{ShiftFits, Cell, check-outcome, query-outcome}
-use Rattle.stratify.specs.Overview.{ByQueries}
+use Rattle.stratify.specs.Overview.{overview-outcome, ByQueries}
 
 -- ---- 1: one visit in every cell of every shape
 
@@ -134,7 +134,9 @@ pub record Theorems : Type 0 where
   -- (01: for m 0 the answer is the number of the block)
   pub size-zero : {P : Plan} → Valid (generators P) → {s : Shift} → ShiftFits s → {level : ℕ} → Level level
       → {k : ℕ} → k < 2 ^ index-bits → query-outcome P s level 0 0 k 0 0 ≡ accepted k
-  -- of many cells in one query, where columns, rows and answers are equally many
+  -- of many cells in one query: 8 exactly where columns, rows and answers are not equally many, and what it comes to where they are
+  pub overview-lengths : (P : Plan) (s : Shift) (level m a k : ℕ) (cs rs answers : List ℕ)
+      → (overview-outcome P s level m a k cs rs answers ≡ refused 8 []) ↔ ((length cs ≡ length rs) × (length cs ≡ length answers) → ⊥)
   pub overview : (P : Plan) (s : Shift) (level m a k : ℕ) (cs rs answers : List ℕ) → length cs ≡ length rs → length cs ≡ length answers
       → ByQueries P s level m a k cs rs answers
   -- of 64 words

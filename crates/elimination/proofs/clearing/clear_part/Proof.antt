@@ -8,7 +8,7 @@ use Rattle.elimination.proofs.clearing.clear_part.Tie as tie
 
 abbrev Inv-loop : tie.InvT-loop
 Inv-loop words₀ indexes₀ from pivot at₀ words indexes at =
-    (from ≤ at) × (at ≤ from + 4) × Clearing (pivot .word) (pivot .index) from at words₀ indexes₀ words indexes
+    (from ≤ at) × (at ≤ from + 4) × Clearing 32 (pivot .word) (pivot .index) from at words₀ indexes₀ words indexes
 
 abbrev μ-loop : tie.MeasureT-loop
 μ-loop words₀ indexes₀ from pivot at₀ words indexes at = from + 4 - at

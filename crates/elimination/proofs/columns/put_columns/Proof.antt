@@ -16,7 +16,7 @@ use Rattle.elimination.proofs.columns.put_columns.Statement.{statement}
 use Rattle.elimination.proofs.columns.put_columns.Tie as tie
 
 abbrev Inv-loop : tie.InvT-loop
-Inv-loop m a x y n columns₀ c₀ columns c = (c ≤ m) × Putting (λ t. interval (plain (pair x y)) m a (2 ^ t)) c columns
+Inv-loop m a x y n columns₀ c₀ columns c = (c ≤ m) × Putting 32 (λ t. interval (plain (pair x y)) m a (2 ^ t)) c columns
 
 abbrev μ-loop : tie.MeasureT-loop
 μ-loop m a x y n columns₀ c₀ columns c = m - c

@@ -8,7 +8,7 @@ use Rattle.elimination.proofs.columns.unit_words.Statement.{statement}
 use Rattle.elimination.proofs.columns.unit_words.Tie as tie
 
 abbrev Inv-loop : tie.InvT-loop
-Inv-loop words₀ t₀ words t = (t ≤ 32) × Putting (λ n. 2 ^ n) t words
+Inv-loop words₀ t₀ words t = (t ≤ 32) × Putting 32 (λ n. 2 ^ n) t words
 
 abbrev μ-loop : tie.MeasureT-loop
 μ-loop words₀ t₀ words t = 32 - t

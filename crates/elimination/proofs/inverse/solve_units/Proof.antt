@@ -65,7 +65,7 @@ returns c =
     let s = c .before .before .before .before .before .before in
     let l = c .before .before .before .loop in
     inverted-kernel (s .args .columns) (words s) (s .args .n) (getD (l .indexes) (l .c) 0)
-    (pending-kernel (product-additive one-lt-two _) (l .inv .3) (omega arith) (c .if1 .taken)) _
+    (pending-kernel (product-additive one-lt-two _) (l .inv .3) (omega arith) (c .if1 .taken))
 
 slice-aggregate-clear : tie.Need-slice-aggregate-clear Inv-loop μ-loop
 slice-aggregate-clear c = sym (c .before .before .before .before .loop .inv .1 .0)

@@ -58,7 +58,7 @@ returns c =
     let (w, i) = l .inv .2 (omega arith) in
     eliminated-kernel (s .args .columns) (words s) (s .args .n) (l .pivot .index)
     (pending-kernel (product-additive one-lt-two _) (l .inv .3) (omega arith) (sym w ∙ c .if1 .taken) ∙ ap in-kernel (sym i))
-    (s .args .asked) 0
+    (s .args .asked)
 
 add-next : tie.Need-add-next Inv-loop μ-loop
 add-next c = omega arith

@@ -12,7 +12,7 @@ use Rattle.refusal.specs.Outcome.{Outcome, accepted, Test, first}
 use Rattle.refusal.proofs.First.{first-none, first-refuses, first-passes}
 use Rattle.plan.proofs.Level.{level-of}
 use Rattle.stratify.specs.Answers.{query-tests}
-use Rattle.stratify.proofs.Tests.{past-limit}
+use Rattle.stratify.proofs.Tests.{past-limit, cell-first}
 use Rattle.stratify.proofs.judging.judge.Statement.{statement}
 use Rattle.stratify.proofs.judging.judge.Tie as tie
 
@@ -58,7 +58,10 @@ outside-requires : tie.Need-outside-requires
 outside-requires c κs = let k = level-within (c .before .before) in (omega arith, omega arith)
 
 returns-4 : tie.Need-returns-4
-returns-4 c = sym (shape-passed (c .before .before) ∙ first-refuses after 6 _ (sym (c .before .outside .ensures) ∙ c .if4 .taken))
+returns-4 c =
+    let e = c .before .before in
+    let known = sym (e .before .before .before .unknown-level .ensures) ∙ e .before .before .if1 .left in
+    sym (cell-first after _ _ _ _ _ _ (level-of _ known) (e .before .if2 .left) (e .if3 .left) (sym (c .before .outside .ensures) ∙ c .if4 .taken))
 
 sub-if5 : tie.Need-sub-if5
 sub-if5 c = let k = level-within (c .before .before .before .before) in omega arith

@@ -19,7 +19,7 @@ use Rattle.plan.proofs.Laws.{words-valid}
 use Rattle.elimination.specs.Elimination.{ShapeColumns, Inverts}
 use Rattle.elimination.proofs.Shapes.{least-of-kernel, determinant-nonzero, inverse-of-shape}
 use Rattle.stratify.specs.Answers.{query-tests, Cell, ShiftFits}
-use Rattle.stratify.proofs.Tests.{cell-of}
+use Rattle.stratify.proofs.Outcomes.{cell-of}
 use Rattle.stratify.proofs.Answered.{inside}
 use Rattle.stratify.proofs.Overviewed.{refuses, accepts, rows-differ, answers-differ, tests-refuse, shape-refuses}
 use Rattle.stratify.proofs.Overviewed.{others-refuse, all-answered}

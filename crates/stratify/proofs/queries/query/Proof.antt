@@ -13,7 +13,7 @@ use Rattle.refusal.proofs.First.{refused-before, passed-before}
 use Rattle.plan.specs.Pair.{generators, scrambling}
 use Rattle.plan.proofs.Laws.{words-valid}
 use Rattle.stratify.specs.Answers.{of-location, query-tests}
-use Rattle.stratify.proofs.Tests.{cell-of}
+use Rattle.stratify.proofs.Outcomes.{cell-of}
 use Rattle.stratify.proofs.queries.query.Statement.{statement}
 use Rattle.stratify.proofs.queries.query.Tie as tie
 
