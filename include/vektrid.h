@@ -96,8 +96,8 @@ uint32_t vektrid_query(const uint32_t *words, size_t count, uint32_t shift_x, ui
  * stand there more than once, and columns and rows, which are only read, may overlap each other.
  *
  * 0, or the first refusal that applies, in the order 1, 8, 2, 4, 5, then 6 of the first cell, 7, 3, then 6 of the later cells. 8 is given unless
- * the three counts are equal. From 2 on this is what vektrid_query answers for the earliest cell that it refuses; without cells, 2, 4, 5, 7 and 3
- * are judged all the same. Refusal 3 writes *j as in vektrid_query. */
+ * the three counts are equal. From 2 on this is what vektrid_query answers for the earliest cell that it refuses; without cells, the level, the
+ * shape and the block are judged all the same, and the pair for this shape. Refusal 3 writes *j as in vektrid_query. */
 uint32_t vektrid_overview(const uint32_t *words, size_t count, uint32_t shift_x, uint32_t shift_y, uint32_t level, uint32_t m, uint32_t a,
                           uint32_t block, const uint32_t *columns, size_t columns_count, const uint32_t *rows, size_t rows_count,
                           uint32_t *answers, size_t answers_count, uint32_t *j);
