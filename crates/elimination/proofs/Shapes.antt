@@ -63,6 +63,3 @@ module _ {x y : List ℕ} {m a : ℕ} (shape : Shape (pair x y) m a) where
       → ShapeInverse (pair x y) m a inverse
   inverse-of-shape are {inverse} inverts i h =
       ap (product 2 inverse) (sym (are i h)) ∙ inverts .back refl i h (rw (are i h) (interval-lt shape i))
-
-  pub apart-of-inverse : (inverse : List ℕ) → ShapeInverse (pair x y) m a inverse → Apart (plain (pair x y)) m a
-  apart-of-inverse inverse back i j hi hj s = sym (back i hi) ∙ ap (product 2 inverse) (interval-of-share shape i j s) ∙ back j hj

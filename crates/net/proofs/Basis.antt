@@ -36,22 +36,28 @@ module _ {G : Generators} {m a : ℕ} (shape : Shape G m a) where
       let below : p < b ^ m = let h = there .in-block .below in omega arith in
       rw (is p below (ap₂ (serial b (m - a)) (there .in-column) (there .in-row))) (related .block-visit)
 
+  -- what leads back from the intervals to the plain indexes answers every query
+  module _ (inverse : ℕ → ℕ) (back : (i : ℕ) → i < b ^ m → inverse (interval (plain G) m a i) ≡ i) where
+    pub inverse-apart : Apart (plain G) m a
+    inverse-apart i j hi hj s = sym (back i hi) ∙ ap inverse (interval-of-share shape i j s) ∙ back j hj
+
+    pub inverse-only : (s t : ℕ) → s < b ^ R → t < b ^ R → (k c r : ℕ) → c < b ^ a → r < b ^ (m - a)
+        → Only (VisitIn (shifted G s t) m a k c r) (k * b ^ m + inverse (plain-interval (shifted G s t) m a k c r))
+    inverse-only s t hs ht k c r hc hr =
+        index-only inverse-apart s t hs ht k c r hc hr (inverse (plain-interval (shifted G s t) m a k c r))
+        (λ i h e. ap inverse (sym e) ∙ back i h)
+
 module _ {G : Generators} {m a : ℕ} (shape : Shape G m a) (prime : Prime (G .b)) where
   open Generators G using (b, R)
 
   module _ (fs : List BasisEntry) (back : (i : ℕ) → i < b ^ m → solve b (interval (plain G) m a) fs (interval (plain G) m a i) ≡ i) where
-    apart : Apart (plain G) m a
-    apart i j hi hj s = sym (back i hi) ∙ ap (solve b (interval (plain G) m a) fs) (interval-of-share shape i j s) ∙ back j hj
-
     answers : (s t : ℕ) → s < b ^ R → t < b ^ R → (k : ℕ) → Finds (shifted G s t) m a k (basis-index G (shifted G s t) fs m a k)
     unfolding basis-index
-    answers s t hs ht k c r hc hr =
-        index-only shape apart s t hs ht k c r hc hr (solve b (interval (plain G) m a) fs (plain-interval (shifted G s t) m a k c r))
-        (λ i h e. ap (solve b (interval (plain G) m a) fs) (sym e) ∙ back i h)
+    answers s t hs ht k c r hc hr = inverse-only shape (solve b (interval (plain G) m a) fs) back s t hs ht k c r hc hr
 
     solved : Solved G m a fs
     solved = record {
-      nonzero = apart-iff shape prime .1 apart;
+      nonzero = apart-iff shape prime .1 (inverse-apart shape (solve b (interval (plain G) m a) fs) back);
       answers-shifted = answers;
       answers-plain = λ k.
           let positive = pow-pos (prime .big) R in

@@ -24,7 +24,7 @@ module _ {b : ℕ} (big : 1 < b) where
       let S = solve-additive A fs in
       sum-additive S (digit-additive (less-additive (same-additive big) (chain-additive S A)) (f .pivot) (f .inverse) (f .index))
 
-  -- two additive maps that agree on the first n powers agree below the next one
+  -- two additive maps that agree on the first n powers agree on all numbers of n digits
   pub additive-ext : {K L : ℕ → ℕ} → Additive b K → Additive b L → (n : ℕ) → ((t : ℕ) → t < n → K (b ^ t) ≡ L (b ^ t)) → (v : ℕ) → v < b ^ n
       → K v ≡ L v
   additive-ext {K} {L} A B zero same v h =

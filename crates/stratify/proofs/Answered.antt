@@ -25,10 +25,9 @@ use Rattle.net.specs.Elimination.{serial, plain-interval}
 use Rattle.net.proofs.Interval.{row-below, block-lt, serial-lt}
 use Rattle.net.proofs.Product.{product-plus}
 use Rattle.net.proofs.VisitIndex.{visit-index-only}
-use Rattle.net.proofs.Basis.{index-only}
+use Rattle.net.proofs.Basis.{inverse-only}
 use Rattle.word.specs.Matrices.{pair}
 use Rattle.elimination.specs.Elimination.{ShapeInverse}
-use Rattle.elimination.proofs.Shapes.{apart-of-inverse}
 use Rattle.stratify.specs.Answers.{not-a-cell}
 use Rattle.stratify.specs.Overview.{some-outside, others-outside, AllInside, visit-indexes}
 use Rattle.stratify.proofs.Cell.{fits}
@@ -106,9 +105,7 @@ module _ {x y : List ℕ} {m a : ℕ} (shape : Shape (pair x y) m a) (s t : ℕ)
 
   -- the answer is the product with the number of the plain cell
   only : (c r : ℕ) → c < 2 ^ a → r < 2 ^ (m - a) → Only (VisitIn (shifted (pair x y) s t) m a k c r) (k * 2 ^ m + product 2 inverse (number c r))
-  only c r hc hr =
-      index-only shape (apart-of-inverse shape inverse back) s t hs ht k c r hc hr (product 2 inverse (number c r))
-      (λ i h e. ap (product 2 inverse) (sym e) ∙ back i h)
+  only = inverse-only shape (product 2 inverse) back s t hs ht k
 
   product-below : (c r : ℕ) → c < 2 ^ a → r < 2 ^ (m - a) → product 2 inverse (number c r) < 2 ^ m
   product-below c r hc hr = let below = only c r hc hr .holds .in-block .below in omega arith
