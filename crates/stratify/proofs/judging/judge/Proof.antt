@@ -59,7 +59,7 @@ outside-requires c κs = let k = level-within (c .before .before) in (omega arit
 
 returns-4 : tie.Need-returns-4
 returns-4 c =
-    let e = c .before .before in
+    let e : tie.Else3 = c .before .before in
     let known = sym (e .before .before .before .unknown-level .ensures) ∙ e .before .before .if1 .left in
     sym (cell-first after _ _ _ _ _ _ (level-of _ known) (e .before .if2 .left) (e .if3 .left) (sym (c .before .outside .ensures) ∙ c .if4 .taken))
 
