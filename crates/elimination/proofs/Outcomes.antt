@@ -35,12 +35,7 @@ module _ (columns : List ℕ) (small : Below (2 ^ 32) columns) (m : ℕ) where
     positive = sound (in-kernel j) stops .1 .positive
 
     kernel-found : KernelIs columns m j
-    kernel-found =
-        let (below, s) = sound (in-kernel j) stops in
-        record {
-          least = λ n. record { positive = positive; below = below; vanishes = s .vanishes; least = s .least };
-          none = λ z. let some = positive in absurd (omega arith);
-        }
+    kernel-found = record { least = λ n. sound (in-kernel j) stops; none = λ z. let some = positive in absurd (omega arith) }
 
     pub eliminated-kernel : (asked : ℕ) → Eliminates columns m asked j 0
     eliminated-kernel asked = record {

@@ -35,8 +35,7 @@ module _ {x y : List ℕ} {m a : ℕ} (shape : Shape (pair x y) m a) where
     -- the kernel is 01's j
     pub least-of-kernel : kernel ≢ 0 → Least (plain (pair x y)) m a kernel
     least-of-kernel ne =
-        let k = is .least ne in
-        let below = k .below in
+        let (below, k) = is .least ne in
         record {
           positive = k .positive;
           below = below;
@@ -45,8 +44,8 @@ module _ {x y : List ℕ} {m a : ℕ} (shape : Shape (pair x y) m a) where
         }
       where
         go : (i : ℕ) → 0 < i → Share (plain (pair x y)) m a i 0 → (i < 2 ^ m) ⊎ (2 ^ m ≤ i) → kernel ≤ i
-        go i h s (inl l) = is .least ne .least i h (are i l ∙ interval-of-share shape i 0 s ∙ interval-zero shape)
-        go i h s (inr g) = let below = is .least ne .below in omega arith
+        go i h s (inl l) = is .least ne .1 .least i h (are i l ∙ interval-of-share shape i 0 s ∙ interval-zero shape)
+        go i h s (inr g) = let below = is .least ne .0 in omega arith
 
     -- without a kernel index 0 shares its interval with no other
     alone-without-kernel : kernel ≡ 0 → Alone (plain (pair x y)) m a

@@ -6,7 +6,7 @@ use Prim.Native.Nat.{ℕ, _^_, _≤_, _<_}
 use lib.ListN.{replicate}
 use Rattle.net.specs.Generators.{Generators, product}
 use Rattle.net.specs.Scrambling.{plain}
-use Rattle.net.specs.Elimination.{interval}
+use Rattle.net.specs.Elimination.{LeastZero, interval}
 use Rattle.word.specs.Index.{index-bits}
 
 -- ---- the columns of a shape
@@ -26,16 +26,9 @@ ShapeInverse G m a inverse = (i : ℕ) → i < 2 ^ m → product 2 inverse (inte
 
 -- ---- the kernel of the first m columns
 
--- j is the least index above 0 whose product is 0, and it has m digits
-pub record LeastKernel (columns : List ℕ) (m j : ℕ) : Type 0 where
-  pub positive : 0 < j
-  pub below : j < 2 ^ m
-  pub vanishes : product 2 columns j ≡ 0
-  pub least : (i : ℕ) → 0 < i → product 2 columns i ≡ 0 → j ≤ i
-
--- `kernel` is this index, or it is 0, and then no index of m digits above 0 has the product 0
+-- `kernel` is the least index above 0 whose product is 0, and has m digits; or it is 0, and then no index of m digits above 0 has the product 0
 pub record KernelIs (columns : List ℕ) (m kernel : ℕ) : Type 0 where
-  pub least : kernel ≢ 0 → LeastKernel columns m kernel
+  pub least : kernel ≢ 0 → (kernel < 2 ^ m) × LeastZero (product 2 columns) kernel
   pub none : kernel ≡ 0 → (i : ℕ) → i < 2 ^ m → product 2 columns i ≡ 0 → i ≡ 0
 
 -- ---- what is asked for

@@ -69,21 +69,9 @@ module _ (P : Plan) (s : Shift) (level m a k : ℕ) where
       go false false = refl
 
   -- 3, or all answers
-  no-cell : _≡_ {A = Outcome (List ℕ)} (shape-outcome P m a []) (then (shape-outcome {A = Unit} P m a tt) (accepted []))
-  unfolding shape-outcome then
-  no-cell = go (determinant (generators P) m a)
-    where
-      j : ℕ
-      j = least-index (plain (generators P)) m a
-
-      go : (d : ℕ) → _≡_ {A = Outcome (List ℕ)} (elim d [ zero ↦ not-net m a j | suc d ↦ accepted [] ])
-          (then {A = Unit} (elim d [ zero ↦ not-net m a j | suc d ↦ accepted tt ]) (accepted []))
-      go zero = refl
-      go (suc d) = refl
-
   by-shape : (c r : ℕ) (cs rs : List ℕ) → AllPass (tests-without-cell level m a k)
       → and-others (located c r) (one-by-one one cs rs)
-      ≡ then (shape-outcome {A = Unit} P m a tt) (first (others-outside m a (c ∷ cs) (r ∷ rs) ∷ [])
+      ≡ then (shape-outcome P m a) (first (others-outside m a (c ∷ cs) (r ∷ rs) ∷ [])
       (accepted (visit-indexes (sequence P s) m a k (c ∷ cs) (r ∷ rs))))
   unfolding shape-outcome then locate visit-indexes and-others first
   by-shape c r cs rs all = go (determinant (generators P) m a) refl
@@ -116,8 +104,7 @@ module _ (P : Plan) (s : Shift) (level m a k : ℕ) where
   -- the theorem
   pub overview-order : (cs rs : List ℕ) → length cs ≡ length rs → cells-outcome P s level m a k cs rs ≡ ordered-outcome P s level m a k cs rs
   unfolding one-by-one some-outside visit-indexes first
-  overview-order [] [] e =
-      first-ext (tests-without-cell level m a k) (λ all. no-cell) ∙ sym (with-cell (then (shape-outcome {A = Unit} P m a tt) (accepted [])))
+  overview-order [] [] e = sym (with-cell (then (shape-outcome P m a) (accepted [])))
   overview-order [] (r ∷ rs) e = absurd (omega arith)
   overview-order (c ∷ cs) [] e = absurd (omega arith)
   overview-order (c ∷ cs) (r ∷ rs) e =
@@ -125,7 +112,7 @@ module _ (P : Plan) (s : Shift) (level m a k : ℕ) where
       ∙ first-ext (query-tests level m a k c r) (λ all. by-shape c r cs rs (all .0, (all .1 .0, (all .1 .1 .0, (all .1 .1 .1 .1 .0, tt)))))
 
   -- the empty list is judged as column 0 and row 0 would be, which every shape has
-  three : _≡_ {A = Outcome (List ℕ)} (then (located 0 0) (accepted [])) (shape-outcome P m a [])
+  three : _≡_ {A = Outcome (List ℕ)} (then (located 0 0) (accepted [])) (then (shape-outcome P m a) (accepted []))
   unfolding shape-outcome then locate
   three = go (determinant (generators P) m a)
     where
@@ -133,11 +120,12 @@ module _ (P : Plan) (s : Shift) (level m a k : ℕ) where
       j = least-index (plain (generators P)) m a
 
       go : (d : ℕ) → _≡_ {A = Outcome (List ℕ)} (then (of-location m a (elim d [ zero ↦ bad-shape j | suc d ↦ found (index 0 0) ])) (accepted []))
-          (elim d [ zero ↦ not-net m a j | suc d ↦ accepted [] ])
+          (then {A = Unit} (elim d [ zero ↦ not-net m a j | suc d ↦ accepted tt ]) (accepted []))
       go zero = refl
       go (suc d) = refl
 
-  pub empty-query : _≡_ {A = Outcome (List ℕ)} (first (tests-without-cell level m a k) (shape-outcome P m a [])) (then (one 0 0) (accepted []))
+  pub empty-query : _≡_ {A = Outcome (List ℕ)} (first (tests-without-cell level m a k) (then (shape-outcome P m a) (accepted [])))
+      (then (one 0 0) (accepted []))
   empty-query =
       let after = then {B = List ℕ} (located 0 0) (accepted []) in
       sym (then-first (query-tests level m a k 0 0) (located 0 0) (accepted []) ∙ with-cell after

@@ -1,7 +1,7 @@
 -- What an overview comes to at each of its returns. Assumes nothing.
 use mathlib.Core.Path.{_≡_, refl, sym, ap, ap₂, _∙_}
-use mathlib.Core.Logic.{_≢_, _↔_, _⊎_, inl, inr}
-use mathlib.Core.Bool.{Bool, true, false, not, _||_}
+use mathlib.Core.Logic.{_≢_, _↔_, _⊎_, inl, inr, ⊎-elim}
+use mathlib.Core.Bool.{Bool, not, _||_}
 use mathlib.Core.List.{List, [], _∷_}
 use Prim.Native.Nat.{ℕ, zero, suc}
 use native.Mathlib.Omega.{arith}
@@ -16,7 +16,7 @@ use Rattle.net.specs.Shape.{Shape, determinant}
 use Rattle.net.specs.Check.{least-index}
 use Rattle.net.proofs.Least.{least-unique, least-index-least, crowded-of-least, zero-of-crowded}
 use Rattle.refusal.specs.Outcome.{Outcome, accepted, refused, not-net, Test, first, part-left, then}
-use Rattle.refusal.proofs.First.{first-none, first-passes, first-refuses, first-other, refused-before, passed-before}
+use Rattle.refusal.proofs.First.{first-none, first-refuses, first-other, refused-before, passed-before}
 use Rattle.refusal.proofs.First.{accepted-refused, refused-same}
 use Rattle.refusal.proofs.First.{then-accepted, then-refused, refused-leaves, accepted-hands}
 use Rattle.plan.specs.declared.pair.Plan.{Plan}
@@ -30,24 +30,29 @@ use Rattle.stratify.proofs.OneByOne.{cells-are}
 -- ---- 3 of the shape
 
 module _ (P : Plan) (m a : ℕ) where
-  shape-no-net : {A : Type 0} (x : A) → Shape (generators P) m a → (j : ℕ) → Least (plain (generators P)) m a j → shape-outcome P m a x
-      ≡ not-net m a j
-  unfolding shape-outcome
-  shape-no-net x shape j least =
-      let e = zero-of-crowded shape two (crowded-of-least (plain (generators P)) m a j least) in
-      let same = least-unique (plain (generators P)) m a (least-index (plain (generators P)) m a) j (least-index-least shape two e) least in
-      rw (e, shape-outcome) (ap (λ (i : ℕ). not-net m a i) same)
+  abbrev j : ℕ
+  j = least-index (plain (generators P)) m a
 
-  shape-net : {A : Type 0} (x : A) → determinant (generators P) m a ≢ 0 → shape-outcome P m a x ≡ accepted x
-  unfolding shape-outcome
-  shape-net {A} x ne = go (determinant (generators P) m a) ne
-    where
-      j : ℕ
-      j = least-index (plain (generators P)) m a
+  abbrev by-determinant : ℕ → Outcome Unit
+  by-determinant d = elim d [ zero ↦ not-net m a j | suc d ↦ accepted tt ]
 
-      go : (d : ℕ) → d ≢ 0 → _≡_ {A = Outcome A} (elim d [ zero ↦ not-net m a j | suc d ↦ accepted x ]) (accepted x)
-      go zero n = absurd (n refl)
-      go (suc d) n = refl
+  either : (d : ℕ) → ((d ≡ 0) × (by-determinant d ≡ not-net m a j)) ⊎ ((d ≢ 0) × (by-determinant d ≡ accepted tt))
+  either zero = inl (refl, refl)
+  either (suc d) = inr (λ e. omega (arith, e), refl)
+
+  shape-decides : ((determinant (generators P) m a ≡ 0) × (shape-outcome P m a ≡ not-net m a j))
+      ⊎ ((determinant (generators P) m a ≢ 0) × (shape-outcome P m a ≡ accepted tt))
+  unfolding shape-outcome
+  shape-decides = either (determinant (generators P) m a)
+
+  shape-net : determinant (generators P) m a ≢ 0 → shape-outcome P m a ≡ accepted tt
+  shape-net ne = ⊎-elim (λ (z, e). absurd (ne z)) (λ (n, e). e) shape-decides
+
+  shape-no-net : Shape (generators P) m a → (i : ℕ) → Least (plain (generators P)) m a i → shape-outcome P m a ≡ not-net m a i
+  shape-no-net shape i least =
+      let z = zero-of-crowded shape two (crowded-of-least (plain (generators P)) m a i least) in
+      let same = least-unique (plain (generators P)) m a j i (least-index-least shape two z) least in
+      ⊎-elim (λ (z, e). e ∙ ap (λ (n : ℕ). not-net m a n) same) (λ (n, e). absurd (n z)) shape-decides
 
 -- ---- the two promises of a return
 
@@ -83,48 +88,23 @@ module _ (P : Plan) (s : Shift) (level m a k : ℕ) (cs rs old : List ℕ) where
     abbrev others : Outcome (List ℕ)
     others = first (others-outside m a cs rs ∷ []) (accepted (visit-indexes (sequence P s) m a k cs rs))
 
-    ordered : outcome ≡ first tests (then (shape-outcome {A = Unit} P m a tt) others)
+    ordered : outcome ≡ first tests (then (shape-outcome P m a) others)
     ordered = cells-are P s level m a k cs rs old e f ∙ overview-order P s level m a k cs rs e
 
     pub tests-refuse : {n : ℕ} {vs : List ℕ} → _≡_ {A = Outcome Unit} (first tests (accepted tt)) (refused n vs) → outcome ≡ refused n vs
-    tests-refuse h = ordered ∙ refused-before tt (then (shape-outcome {A = Unit} P m a tt) others) tests h
+    tests-refuse h = ordered ∙ refused-before tt (then (shape-outcome P m a) others) tests h
 
     module _ (h : _≡_ {A = Outcome Unit} (first tests (accepted tt)) (accepted tt)) where
-      past : outcome ≡ then (shape-outcome {A = Unit} P m a tt) others
-      past = ordered ∙ passed-before tt (then (shape-outcome {A = Unit} P m a tt) others) tests h
+      past : outcome ≡ then (shape-outcome P m a) others
+      past = ordered ∙ passed-before tt (then (shape-outcome P m a) others) tests h
 
       pub shape-refuses : Shape (generators P) m a → (j : ℕ) → Least (plain (generators P)) m a j → outcome ≡ not-net m a j
-      shape-refuses shape j least = past ∙ then-refused others (shape-no-net P m a tt shape j least)
+      shape-refuses shape j least = past ∙ then-refused others (shape-no-net P m a shape j least)
 
-      module _ (odd : determinant (generators P) m a ≢ 0) where
-        shape-passes : outcome ≡ others
-        shape-passes = past ∙ then-accepted others (shape-net P m a tt odd)
-
-        pub others-refuse : others-outside m a cs rs .holds ≡ true → outcome ≡ refused 6 []
-        others-refuse g = shape-passes ∙ first-refuses (accepted (visit-indexes (sequence P s) m a k cs rs)) 6 [] g
-
-        pub all-answered : others-outside m a cs rs .holds ≡ false → outcome ≡ accepted (visit-indexes (sequence P s) m a k cs rs)
-        all-answered g =
-            let answers = accepted (visit-indexes (sequence P s) m a k cs rs) in
-            shape-passes ∙ first-passes answers 6 [] g ∙ first-none answers
+      pub shape-passes : determinant (generators P) m a ≢ 0 → outcome ≡ others
+      shape-passes odd = past ∙ then-accepted others (shape-net P m a odd)
 
 -- ---- 8, exactly
-
--- 3 of the shape, or none
-module _ (P : Plan) (m a : ℕ) where
-  abbrev j : ℕ
-  j = least-index (plain (generators P)) m a
-
-  abbrev by-determinant : ℕ → Outcome Unit
-  by-determinant d = elim d [ zero ↦ not-net m a j | suc d ↦ accepted tt ]
-
-  either : (d : ℕ) → (by-determinant d ≡ not-net m a j) ⊎ (by-determinant d ≡ accepted tt)
-  either zero = inl refl
-  either (suc d) = inr refl
-
-  shape-decides : (shape-outcome {A = Unit} P m a tt ≡ not-net m a j) ⊎ (shape-outcome {A = Unit} P m a tt ≡ accepted tt)
-  unfolding shape-outcome
-  shape-decides = either (determinant (generators P) m a)
 
 -- none of the tests after 8 gives it
 module _ (P : Plan) (s : Shift) (level m a k : ℕ) (cs rs : List ℕ) where
@@ -134,10 +114,11 @@ module _ (P : Plan) (s : Shift) (level m a k : ℕ) (cs rs : List ℕ) where
   abbrev later : Outcome (List ℕ)
   later = first (others-outside m a cs rs ∷ []) answers-of
 
-  after-shape : (shape-outcome {A = Unit} P m a tt ≡ not-net m a (j P m a)) ⊎ (shape-outcome {A = Unit} P m a tt ≡ accepted tt)
-      → then (shape-outcome {A = Unit} P m a tt) later ≡ refused 8 [] → ⊥
-  after-shape (inl e) h = let z : _≡_ {A = ℕ} 3 8 = refused-same (sym (then-refused later e) ∙ h) in omega arith
-  after-shape (inr e) h =
+  after-shape : ((determinant (generators P) m a ≡ 0) × (shape-outcome P m a ≡ not-net m a (j P m a)))
+      ⊎ ((determinant (generators P) m a ≢ 0) × (shape-outcome P m a ≡ accepted tt))
+      → then (shape-outcome P m a) later ≡ refused 8 [] → ⊥
+  after-shape (inl (z, e)) h = let n : _≡_ {A = ℕ} 3 8 = refused-same (sym (then-refused later e) ∙ h) in omega arith
+  after-shape (inr (n, e)) h =
       let last = first-other answers-of 6 [] (λ z. omega (arith, z)) _ (sym (then-accepted later e) ∙ h) in
       accepted-refused (sym (first-none answers-of) ∙ last .1)
 

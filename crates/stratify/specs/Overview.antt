@@ -38,14 +38,14 @@ one-by-one one (c ∷ cs) [] = accepted []
 abbrev pub tests-without-cell : (level m a k : ℕ) → List Test
 tests-without-cell level m a k = unknown-level level ∷ above-level level m ∷ not-a-shape m a ∷ not-a-block 2 index-bits m k ∷ []
 
--- 3 of the shape, or else this answer
-unfoldable pub shape-outcome : {A : Type 0} → Plan → ℕ → ℕ → A → Outcome A
-shape-outcome P m a answer =
-    elim (determinant (generators P) m a) [ zero ↦ not-net m a (least-index (plain (generators P)) m a) | suc d ↦ accepted answer ]
+-- 3 of the shape
+unfoldable pub shape-outcome : Plan → ℕ → ℕ → Outcome Unit
+shape-outcome P m a =
+    elim (determinant (generators P) m a) [ zero ↦ not-net m a (least-index (plain (generators P)) m a) | suc d ↦ accepted tt ]
 
 -- the cells of a list: by their single queries; no cell: by a query's tests without 6
 abbrev pub cells-outcome : Plan → Shift → (level m a k : ℕ) → List ℕ → List ℕ → Outcome (List ℕ)
-cells-outcome P s level m a k [] rs = first (tests-without-cell level m a k) (shape-outcome P m a [])
+cells-outcome P s level m a k [] rs = first (tests-without-cell level m a k) (then (shape-outcome P m a) (accepted []))
 cells-outcome P s level m a k (c ∷ cs) rs = one-by-one (query-outcome P s level m a k) (c ∷ cs) rs
 
 -- what an overview comes to: 8, or what the earliest refused cell would get, or all answers
@@ -75,7 +75,7 @@ visit-indexes S m a k (c ∷ cs) [] = []
 abbrev pub ordered-outcome : Plan → Shift → (level m a k : ℕ) → List ℕ → List ℕ → Outcome (List ℕ)
 ordered-outcome P s level m a k cs rs =
     first (query-tests level m a k (getD cs 0 0) (getD rs 0 0))
-    (then (shape-outcome {A = Unit} P m a tt) (first (others-outside m a cs rs ∷ []) (accepted (visit-indexes (sequence P s) m a k cs rs))))
+    (then (shape-outcome P m a) (first (others-outside m a cs rs ∷ []) (accepted (visit-indexes (sequence P s) m a k cs rs))))
 
 -- ---- what an overview says of the single queries
 

@@ -1,7 +1,7 @@
 -- `overview`: the tests in an order that comes to the same, and then the answers.
 use mathlib.Core.Path.{_≡_, sym, ap, ap₂, _∙_}
 use mathlib.Core.Logic.{_≢_}
-use mathlib.Core.List.{List}
+use mathlib.Core.List.{List, [], _∷_}
 use Prim.Native.Nat.{ℕ}
 use native.Mathlib.Omega.{arith}
 use borrow.Author.Needs.{needs}
@@ -13,16 +13,16 @@ use Rattle.net.specs.Generators.{Valid}
 use Rattle.net.specs.Shape.{Shape, determinant}
 use Rattle.refusal.specs.Outcome.{Outcome, accepted, Test, first}
 use Rattle.refusal.specs.Refusal.{of-judgement}
-use Rattle.refusal.proofs.First.{all-pass}
-use Rattle.plan.specs.Pair.{generators}
+use Rattle.refusal.proofs.First.{first-none, first-passes, first-refuses, all-pass}
+use Rattle.plan.specs.Pair.{generators, sequence}
 use Rattle.plan.proofs.Laws.{words-valid}
 use Rattle.elimination.specs.Elimination.{ShapeColumns, Inverts}
 use Rattle.elimination.proofs.Shapes.{least-of-kernel, determinant-nonzero, inverse-of-shape}
 use Rattle.stratify.specs.Answers.{query-tests, Cell, ShiftFits}
+use Rattle.stratify.specs.Overview.{others-outside, overview-outcome, visit-indexes}
 use Rattle.stratify.proofs.Outcomes.{cell-of}
 use Rattle.stratify.proofs.Answered.{inside}
-use Rattle.stratify.proofs.Overviewed.{refuses, accepts, rows-differ, answers-differ, tests-refuse, shape-refuses}
-use Rattle.stratify.proofs.Overviewed.{others-refuse, all-answered}
+use Rattle.stratify.proofs.Overviewed.{refuses, accepts, rows-differ, answers-differ, tests-refuse, shape-refuses, shape-passes}
 use Rattle.stratify.proofs.overviews.overview.Statement.{statement}
 use Rattle.stratify.proofs.overviews.overview.Tie as tie
 
@@ -149,6 +149,18 @@ no-kernel c = omega arith
 odd : (c : tie.Else3) → let a = inverted-from (c .before) .args in determinant (generators (a .plan)) (a .m) (a .a) ≢ 0
 odd c = determinant-nonzero (shape (c .before .before .before)) (columns (c .before)) (inverts (c .before) .kernel-is) (no-kernel c)
 
+-- what is left of the outcome: 6 of the later cells, or all answers
+left : (c : tie.Else3) → let a = inverted-from (c .before) .args in
+    overview-outcome (a .plan) (a .shift) (a .level) (a .m) (a .a) (a .block) (a .columns .now) (a .rows .now) (a .answers .now)
+    ≡ first (others-outside (a .m) (a .a) (a .columns .now) (a .rows .now) ∷ [])
+    (accepted (visit-indexes (sequence (a .plan) (a .shift)) (a .m) (a .a) (a .block) (a .columns .now) (a .rows .now)))
+left c =
+    let t = c .before .before .before in
+    let j = t .before .before in
+    let a = judged-from j .args in
+    shape-passes (a .plan) (a .shift) (a .level) (a .m) (a .a) (a .block) (a .columns .now) (a .rows .now) (a .answers .now)
+    (equal-rows j) (equal-answers j) (passed t) (odd c)
+
 -- every cell is judged before an answer is written
 put-answers-requires : tie.Need-put-answers-requires
 put-answers-requires c κs =
@@ -181,11 +193,8 @@ others-outside-requires c κs =
 returns-5 : tie.Need-returns-5
 returns-5 c =
     let e = c .before .before in
-    let t = e .before .before .before in
-    let j = t .before .before in
-    let a = judged-from j .args in
-    refuses (a .answers .now) (others-refuse (a .plan) (a .shift) (a .level) (a .m) (a .a) (a .block) (a .columns .now) (a .rows .now)
-    (a .answers .now) (equal-rows j) (equal-answers j) (passed t) (odd e) (sym (c .before .others-outside .ensures) ∙ c .if4 .taken))
+    refuses (inverted-from (e .before) .args .answers .now)
+    (left e ∙ first-refuses _ 6 [] (sym (c .before .others-outside .ensures) ∙ c .if4 .taken))
 
 same-length : tie.Need-same-length
 same-length c = search needs
@@ -195,12 +204,8 @@ returns-6 c =
     let p = c .before .before in
     let g = p .before .before .before in
     let e = g .before .before in
-    let t = e .before .before .before in
-    let j = t .before .before in
-    let a = judged-from j .args in
-    accepts (a .answers .now) (all-answered (a .plan) (a .shift) (a .level) (a .m) (a .a) (a .block) (a .columns .now) (a .rows .now)
-    (a .answers .now) (equal-rows j) (equal-answers j) (passed t) (odd e) (sym (g .before .others-outside .ensures) ∙ g .if4 .left))
-    (p .put-answers .ensures)
+    accepts (inverted-from (e .before) .args .answers .now)
+    (left e ∙ first-passes _ 6 [] (sym (g .before .others-outside .ensures) ∙ g .if4 .left) ∙ first-none _) (p .put-answers .ensures)
 
 pub overview-spec : {M : Type 1} → statement M
 overview-spec =
