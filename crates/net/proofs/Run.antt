@@ -1,17 +1,24 @@
--- The visits of a run and of a part of it, and those of a walk over a run. Assumes nothing.
-use mathlib.Core.Path.{_≡_, sym, ap, _∙_}
+-- The visits of a run and of a part of it, those of a walk over a run, and how many of consecutive visits an interval has. Assumes nothing.
+use mathlib.Core.Path.{_≡_, sym, ap, _∙_, subst}
 use Prim.Native.Nat.{ℕ, suc, _+_, _-_, _*_, _^_, _≤_, _<_, min}
 use native.Mathlib.Omega.{arith}
 use lib.ListN.{take, drop}
 use Rattle.ranges.specs.Range.{range}
+use Rattle.ranges.specs.Count.{count}
+use Rattle.ranges.specs.Bounds.{CountBounds}
 use Rattle.ranges.specs.Walk.{visits-given}
 use Rattle.ranges.proofs.Range.{take-each, drop-each}
 use Rattle.ranges.proofs.Count.{count-map, count-one}
+use Rattle.ranges.proofs.Bounds.{count-bounds}
 use Rattle.ranges.proofs.Walk.{list-within, visits-given-is}
 use Rattle.net.specs.Sequence.{Sequence, Finds, lies}
 use Rattle.net.specs.Run.{visit, visits, run, hits}
 use Rattle.net.specs.Steps.{Runs, WalkedRun}
 use Rattle.net.proofs.VisitIndex.{lies-of, of-lies}
+
+-- the visits of a range in an interval, as the indexes that pass a test
+hits-lies : (S : Sequence) (m a c r s n : ℕ) → hits S m a c r (visits S s n) ≡ count (lies S m a c r) (range s n)
+hits-lies S m a c r s n = count-map _ (visit S) (range s n)
 
 pub runs : (S : Sequence) (m k : ℕ) → Runs S m k
 runs S m k = record { one-hit = one-hit; run-from = part }
@@ -21,7 +28,7 @@ runs S m k = record { one-hit = one-hit; run-from = part }
         let one = finds c r hc hr in
         let from = one .holds .in-block .from in
         let below = one .holds .in-block .below in
-        count-map _ (visit S) (range (k * S .b ^ m) (S .b ^ m))
+        hits-lies S m a c r (k * S .b ^ m) (S .b ^ m)
         ∙ count-one (lies S m a c r) (k * S .b ^ m) (S .b ^ m) (find c r) from (omega arith)
         (lies-of S m a c r (find c r) (one .holds .in-column) (one .holds .in-row))
         (λ j l u hit.
@@ -51,3 +58,11 @@ walked-run S m k last count n room = record {
 
     turned : min size (min n count) ≡ min (min n count) size
     turned = omega arith
+
+-- ---- counts that stop anywhere
+
+pub counted : (S : Sequence) (m a c r K : ℕ) → ((k : ℕ) → k < K → hits S m a c r (run S m k) ≡ 1)
+    → (start n : ℕ) → 1 ≤ n → start + n ≤ K * S .b ^ m → CountBounds start n (S .b ^ m) (hits S m a c r (visits S start n))
+counted S m a c r K each start n some fits =
+    subst (CountBounds start n (S .b ^ m)) (sym (hits-lies S m a c r start n))
+    (count-bounds (lies S m a c r) (S .b ^ m) K (λ k h. sym (hits-lies S m a c r (k * S .b ^ m) (S .b ^ m)) ∙ each k h) start n some fits)

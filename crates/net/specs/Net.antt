@@ -4,6 +4,7 @@ use mathlib.Core.Logic.{_≢_, _↔_}
 use Prim.Native.Nat.{ℕ, suc, _+_, _-_, _*_, _/_, _%_, _^_, _≤_, _<_}
 use lib.ListN.{getD}
 use Rattle.ranges.specs.Unique.{Only}
+use Rattle.ranges.specs.Bounds.{CountBounds}
 use Rattle.digits.specs.Digits.{reversed, plus}
 use Rattle.net.specs.Generators.{Generators, Valid, entry, product}
 use Rattle.net.specs.Sequence.{VisitIn, Finds, column-less, row-less, Apart, Alone}
@@ -11,7 +12,7 @@ use Rattle.net.specs.Scrambling.{Scrambling, plain, digital, Lawful, shi
 use Rattle.net.specs.Shape.{determinant, Passes}
 use Rattle.net.specs.Query.{visit-index}
 use Rattle.net.specs.Standard.{binomial, standard}
-use Rattle.net.specs.Run.{run, hits}
+use Rattle.net.specs.Run.{visits, run, hits}
 
 -- for an added shift: the index of block k in an interval is the block's first plus p, where p is the plain index for the interval
 -- less that of the block's first
@@ -34,11 +35,13 @@ pub record NetTest (G : Generators) (m a : ℕ) : Type 0 where
   pub stratified-iff : (determinant G m a ≢ 0) ↔ Stratified G m a
 
 -- what passing level M is worth: the same in every shape of a size from 0 to M; each block is a (0, m, 2)-net in the words of the literature, and
--- its run has one visit in each interval
+-- its run has one visit in each interval; and how many of n visits from any start on an interval then has (C-15)
 pub record Net (G : Generators) (M : ℕ) : Type 0 where
   pub stratified : (m a : ℕ) → m ≤ M → a ≤ m → Stratified G m a
   pub one-hit : (F : Scrambling) → Lawful (G .b) (G .R) F → (m a k c r : ℕ) → m ≤ M → a ≤ m → c < G .b ^ a → r < G .b ^ (m - a)
       → hits (digital G F) m a c r (run (digital G F) m k) ≡ 1
+  pub counts : (F : Scrambling) → Lawful (G .b) (G .R) F → (m a c r : ℕ) → m ≤ M → a ≤ m → c < G .b ^ a → r < G .b ^ (m - a)
+      → (start n : ℕ) → 1 ≤ n → CountBounds start n (G .b ^ m) (hits (digital G F) m a c r (visits (digital G F) start n))
 
 -- Identity and Pascal's triangle modulo b, with n columns. The columns of the first are powers of b, and its product is the reversal of the
 -- index; the entries of the second are binomials. Each column follows from the one before. Both together pass every shape.

@@ -5,6 +5,7 @@ pub mod Each
 pub mod Search
 pub mod Range
 pub mod Count
+pub mod Bounds
 pub mod Filled
 pub mod Written
 pub mod Skip

@@ -1,6 +1,7 @@
 pub mod Unique
 pub mod Range
 pub mod Count
+pub mod Bounds
 pub mod Search
 pub mod Below
 pub mod Each

@@ -1,7 +1,12 @@
--- What is proved of ranges: the pigeonhole principle, and the steps of a walk as one list. First the statements, as records; at the end
--- `Theorems`, the whole list with the assumption of each, of which proofs/Theorem gives one term.
+-- What is proved of ranges: the pigeonhole principle, how many of a range pass a test that one of each block passes, and the steps of a walk
+-- as one list. First the statements, as records; at the end `Theorems`, the whole list with the assumption of each, of which proofs/Theorem
+-- gives one term.
 use mathlib.Core.Path.{_≡_}
-use Prim.Native.Nat.{ℕ, suc, _+_, _-_, _≤_, _<_, min}
+use mathlib.Core.Bool.{Bool}
+use Prim.Native.Nat.{ℕ, suc, _+_, _-_, _*_, _/_, _≤_, _<_, min}
+use Rattle.ranges.specs.Range.{range}
+use Rattle.ranges.specs.Count.{count}
+use Rattle.ranges.specs.Bounds.{ceiling, IsCeiling, OneInEach, CountBounds}
 use Rattle.ranges.specs.Walk.{Walk, answers, after, visits-then-end}
 
 -- a function from the numbers below N to themselves that takes no value twice takes each
@@ -22,6 +27,13 @@ pub record WalkedByHand {A : Type 0} (visit-of : ℕ → A) (last : ℕ) (w : Wa
 
 pub record Theorems : Type 1 where
   pub pigeonhole : (N : ℕ) → Pigeonhole N
+  pub ceilings : (n d : ℕ) → 0 < d → IsCeiling n d (ceiling n d)
+  -- of any n numbers among the first K blocks
+  pub count-bounds : (test : ℕ → Bool) (B K : ℕ) → OneInEach test B K
+      → (start n : ℕ) → 1 ≤ n → start + n ≤ K * B → CountBounds start n B (count test (range start n))
+  -- what the bounds come to from the first number of a block on: n / B rounded down, and up; and in blocks of one number: n itself
+  pub from-block : {B : ℕ} → 0 < B → (k n held : ℕ) → CountBounds (k * B) n B held → (n / B ≤ held) × (held ≤ ceiling n B)
+  pub blocks-of-one : (start n held : ℕ) → 1 ≤ n → CountBounds start n 1 held → held ≡ n
   -- of walks over any visits
   pub walked : {A : Type 0} (visit-of : ℕ → A) (last start count n : ℕ) → start ≤ last → start + count ≤ suc last
       → Walked visit-of last start count n

@@ -1,0 +1,134 @@
+-- How many numbers of a range pass a test, where of each block of B numbers exactly one does. The idea: of the numbers below x at least
+-- x / B pass, one for each block that ends by then, and at most the ceiling, one for each block that begins before. A range is the
+-- difference of two of these. Assumes nothing.
+use mathlib.Core.Path.{_≡_, ap, ap₂, _∙_}
+use mathlib.Core.Bool.{Bool}
+use mathlib.Core.List.{List, [], _∷_, _++_}
+use Prim.Native.Nat.{ℕ, zero, suc, _+_, _-_, _*_, _/_, _≤_, _<_}
+use native.Mathlib.Nat.{zero-add, zero-mul, mul-div-cancel, div-mul-le-self, lt-div-mul-add, div-lt-iff-lt-mul, le-div-iff-mul-le}
+use native.Mathlib.Numerals.{add-one}
+use native.Mathlib.Omega.{arith}
+use Rattle.ranges.specs.Range.{range}
+use Rattle.ranges.specs.Count.{count}
+use Rattle.ranges.specs.Bounds.{ceiling, IsCeiling, OneInEach, CountBounds}
+use Rattle.ranges.proofs.Range.{range-add}
+
+pub ceiling-is : (n d : ℕ) → 0 < d → IsCeiling n d (ceiling n d)
+unfolding ceiling
+ceiling-is n d pos = record {
+  reaches = let up = lt-div-mul-add {a = n + (d - 1)} pos in omega arith;
+  least = λ p h.
+      let low : n + (d - 1) < suc p * d = omega arith in
+      let q = div-lt-iff-lt-mul {x = n + (d - 1)} {y = suc p} pos .1 low in
+      omega arith;
+}
+
+-- ---- quotients, where B is not 0
+
+module _ {B : ℕ} (pos : 0 < B) where
+  -- a range touches no more blocks than C-15's most, wherever it begins
+  touched-le : (s n : ℕ) → 1 ≤ n → ceiling (s + n) B ≤ s / B + (ceiling (n - 1) B + 1)
+  touched-le s n some =
+      let q : ℕ = s / B in
+      let e : ℕ = ceiling (n - 1) B in
+      let begun = lt-div-mul-add {a = s} pos in
+      let reached = ceiling-is (n - 1) B pos .reaches in
+      ceiling-is (s + n) B pos .least (q + (e + 1)) (omega arith)
+
+  -- and has no fewer blocks among it than C-15's least
+  among-ge : (s n : ℕ) → (n + 1) / B + ceiling s B ≤ (s + n) / B + 1
+  among-ge s n =
+      let f : ℕ = (n + 1) / B in
+      let u : ℕ = (s + n) / B in
+      let ends = lt-div-mul-add {a = s + n} pos in
+      let full = div-mul-le-self (n + 1) B in
+      let wide : n + 1 < (u + 2) * B = omega arith in
+      let few : f < u + 2 = div-lt-iff-lt-mul {x = n + 1} {y = u + 2} pos .1 wide in
+      let p : ℕ = u + 1 - f in
+      let parts : p + f ≡ u + 1 = omega arith in
+      let whole = ap (λ (x : ℕ). x * B) parts in
+      let up : ceiling s B ≤ p = ceiling-is s B pos .least p (omega (arith, whole)) in
+      omega arith
+
+-- ---- counts
+
+module _ (test : ℕ → Bool) where
+  count-append : (l r : List ℕ) → count test (l ++ r) ≡ count test l + count test r
+  unfolding count
+  count-append [] r = omega arith
+  count-append (i ∷ l) r = omega (arith, count-append l r)
+
+  pub count-add : (s p q : ℕ) → count test (range s (p + q)) ≡ count test (range s p) + count test (range (s + p) q)
+  count-add s p q = ap (count test) (range-add s p q) ∙ count-append (range s p) (range (s + p) q)
+
+  -- how many of the numbers below x pass
+  unfoldable below : ℕ → ℕ
+  below x = count test (range 0 x)
+
+  below-add : (x n : ℕ) → below (x + n) ≡ below x + count test (range x n)
+  unfolding below
+  below-add x n = count-add 0 x n ∙ ap (λ (s : ℕ). count test (range 0 x) + count test (range s n)) (zero-add x)
+
+  below-grows : (x y : ℕ) → x ≤ y → below x ≤ below y
+  below-grows x y l = let e : y ≡ x + (y - x) = omega arith in omega (arith, ap below e, below-add x (y - x))
+
+  module _ (B K : ℕ) (pos : 0 < B) (each : OneInEach test B K) where
+    -- the first k blocks have k
+    below-blocks : (k : ℕ) → k ≤ K → below (k * B) ≡ k
+    unfolding below count range
+    below-blocks zero h = ap below (zero-mul B)
+    below-blocks (suc k) h =
+        let e : suc k * B ≡ k * B + B = omega arith in
+        ap below e ∙ below-add (k * B) B ∙ ap₂ (λ (x y : ℕ). x + y) (below-blocks k (omega arith)) (each k h) ∙ add-one k
+
+    below-least : (x : ℕ) → x ≤ K * B → x / B ≤ below x
+    below-least x l =
+        let within : x < suc K * B = omega arith in
+        let q-le = div-lt-iff-lt-mul {x = x} {y = suc K} pos .1 within in
+        omega (arith, below-grows (x / B * B) x (div-mul-le-self x B), below-blocks (x / B) (omega arith))
+
+    below-most : (x : ℕ) → x ≤ K * B → below x ≤ ceiling x B
+    below-most x l =
+        let c = ceiling-is x B pos in
+        omega (arith, below-grows x (ceiling x B * B) (c .reaches), below-blocks (ceiling x B) (c .least K l))
+
+    bounded : (s n : ℕ) → 1 ≤ n → s + n ≤ K * B → CountBounds s n B (count test (range s n))
+    bounded s n some fits =
+        let split = below-add s n in
+        let before-least = below-least s (omega arith) in
+        let before-most = below-most s (omega arith) in
+        let least = below-least (s + n) fits in
+        let most = below-most (s + n) fits in
+        record {
+          most = omega (arith, touched-le pos s n some);
+          least = omega (arith, among-ge pos s n);
+          touched = omega arith;
+          among = omega arith;
+        }
+
+-- that B is not 0 follows
+pub count-bounds : (test : ℕ → Bool) (B K : ℕ) → OneInEach test B K
+    → (start n : ℕ) → 1 ≤ n → start + n ≤ K * B → CountBounds start n B (count test (range start n))
+count-bounds test B K each start n some fits = bounded test B K (positive B fits) each start n some fits
+  where
+    positive : (B : ℕ) → start + n ≤ K * B → 0 < B
+    positive zero f = absurd (omega arith)
+    positive (suc B) f = omega arith
+
+-- ---- what the bounds come to
+
+pub from-block : {B : ℕ} → 0 < B → (k n held : ℕ) → CountBounds (k * B) n B held → (n / B ≤ held) × (held ≤ ceiling n B)
+from-block {B} pos k n held bounds =
+    let first : k * B / B ≡ k = mul-div-cancel k pos in
+    let up : ceiling (k * B) B ≤ k = ceiling-is (k * B) B pos .least k (omega arith) in
+    let among = bounds .among in
+    let touched = bounds .touched in
+    let inner = div-mul-le-self n B in
+    let low : k + n / B ≤ (k * B + n) / B = le-div-iff-mul-le {x = k + n / B} {y = k * B + n} pos .1 (omega arith) in
+    let reached = ceiling-is n B pos .reaches in
+    let high : ceiling (k * B + n) B ≤ k + ceiling n B = ceiling-is (k * B + n) B pos .least (k + ceiling n B) (omega arith) in
+    (omega arith, omega arith)
+
+pub blocks-of-one : (start n held : ℕ) → 1 ≤ n → CountBounds start n 1 held → held ≡ n
+unfolding ceiling
+blocks-of-one start n held some bounds = omega arith
