@@ -17,7 +17,7 @@ use Rattle.net.specs.Steps.{Runs, WalkedRun}
 use Rattle.net.proofs.VisitIndex.{lies-of, of-lies}
 
 -- the visits of a range in an interval, as the indexes that pass a test
-hits-lies : (S : Sequence) (m a c r s n : ℕ) → hits S m a c r (visits S s n) ≡ count (lies S m a c r) (range s n)
+pub hits-lies : (S : Sequence) (m a c r s n : ℕ) → hits S m a c r (visits S s n) ≡ count (lies S m a c r) (range s n)
 hits-lies S m a c r s n = count-map _ (visit S) (range s n)
 
 pub runs : (S : Sequence) (m k : ℕ) → Runs S m k

@@ -1,14 +1,16 @@
 -- Point calls, fills and walks give the visits of consecutive indexes. Assumes nothing.
-use mathlib.Core.Path.{_≡_, refl, sym, ap, _∙_}
+use mathlib.Core.Path.{_≡_, refl, sym, ap, ap₂, _∙_}
 use mathlib.Core.Bool.{false, not}
 use mathlib.Core.List.{List, [], _∷_, map}
-use Prim.Native.Nat.{ℕ, zero, suc, _+_, _≤_, min}
+use Prim.Native.Nat.{ℕ, zero, suc, _+_, _-_, _≤_, min}
+use native.Mathlib.Omega.{arith}
 use borrow.Author.Tests.{ltb-false, not-false, eqb-true}
 use lib.Dec.{eqb, ltb}
-use lib.ListN.{length}
+use lib.ListN.{length, take, drop}
 use Rattle.ranges.specs.Range.{range}
 use Rattle.ranges.specs.Walk.{Walk, answers, visits-then-end, visits-given}
 use Rattle.ranges.specs.Theorem.{Walked}
+use Rattle.ranges.proofs.Range.{take-each, drop-each}
 use Rattle.ranges.proofs.Walk as ranges
 use Rattle.ranges.proofs.Walk.{visits-given-is, list-within}
 use Rattle.net.specs.Sequence.{Sequence}
@@ -36,6 +38,17 @@ filled-visits n S start xs ys e =
     ap (held start) (written n start xs ys S e)
     ∙ ap (λ (l : ℕ). paired start (map (S .x) (range start (length xs))) (map (S .y) (range start l))) (sym equal)
     ∙ paired-each S start (length xs)
+
+-- of a fill from first on, the part that the indexes from start on have: after start - first words, count of them
+pub filled-part : (n : ℕ) (S : Sequence) (start count first : ℕ) (xs ys : List ℕ) → fill-outcome n first xs ys ≡ accepted tt
+    → first ≤ start → start + count ≤ first + length xs
+    → take count (drop (start - first) (held first (filled n S first xs ys))) ≡ visits S start count
+filled-part n S start count first xs ys e from long =
+    let at : first + (start - first) ≡ start = omega arith in
+    let all : min count (length xs - (start - first)) ≡ count = omega arith in
+    ap (λ (l : List Visit). take count (drop (start - first) l)) (filled-visits n S first xs ys e)
+    ∙ ap (take count) (drop-each (visit S) first (length xs) (start - first))
+    ∙ take-each (visit S) (first + (start - first)) (length xs - (start - first)) count ∙ ap₂ (visits S) at all
 
 -- ---- walks
 

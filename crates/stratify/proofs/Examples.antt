@@ -1,11 +1,16 @@
--- Demand 3 at its limits, of the standard pair under any shift. Assumes nothing.
+-- Demand 3 and C-15 at their limits, of the standard pair. Assumes nothing.
+use mathlib.Core.Path.{sym, subst}
 use Prim.Native.Nat.{ℕ, _-_, _^_, _≤_, _<_}
 use lib.Dec.{lit<, lit≤}
+use Rattle.net.specs.Run.{visits, hits}
+use Rattle.net.proofs.Unreached as unreached
+use Rattle.net.proofs.Examples as net
+use Rattle.net.proofs.Examples.{Reached}
 use Rattle.plan.specs.declared.points.Shift.{Shift}
-use Rattle.plan.specs.Pair.{standard-pair}
+use Rattle.plan.specs.Pair.{scrambling, sequence, standard-pair}
 use Rattle.stratify.specs.Answers.{ShiftFits}
 use Rattle.stratify.specs.Theorem.{VisitedOnce}
-use Rattle.stratify.proofs.Theorem.{theorems}
+use Rattle.stratify.proofs.Theorem.{lawful, theorems}
 
 module _ (s : Shift) (fits : ShiftFits s) where
   once : (m a k c r : ℕ) → m ≤ 32 → a ≤ m → c < 2 ^ a → r < 2 ^ (m - a) → k < 2 ^ (32 - m) → VisitedOnce standard-pair s m a k c r
@@ -21,3 +26,11 @@ module _ (s : Shift) (fits : ShiftFits s) where
     once 32 32 0 4294967295 0 (lit≤ tt) (lit≤ tt) (lit< tt) (lit< tt) (lit< tt),
     once 4 1 268435455 1 7 (lit≤ tt) (lit≤ tt) (lit< tt) (lit< tt) (lit< tt),
   )
+
+  -- 50 visits never have 5 in one cell of the shape (4, 2), although no less than 5 is the bound for every shape of that size
+  never-five : (c r start : ℕ) → c < 4 → r < 4 → hits (sequence standard-pair s) 4 2 c r (visits (sequence standard-pair s) start 50) ≤ 4
+  never-five = unreached.never-five (scrambling s) (lawful s fits)
+
+-- the bounds of C-15 are reached without a shift, in three shapes, from starts in the middle of a block
+reached : Reached (sequence standard-pair (record { x = 0; y = 0 }))
+reached = subst Reached (sym (theorems .unshifted standard-pair)) net.reached

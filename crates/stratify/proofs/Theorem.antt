@@ -1,4 +1,4 @@
--- One term of `Theorems`: demand 3 from the theorems of net. Assumes nothing.
+-- One term of `Theorems`: demand 3, C-14 and C-15 from the theorems of net. Assumes nothing.
 use mathlib.Core.Path.{_≡_, refl, sym, ap, _∙_, subst}
 use mathlib.Core.Bool.{not}
 use mathlib.Core.List.{List}
@@ -9,6 +9,7 @@ use lib.Bits.{bitXor}
 use lib.Dec.{eqb}
 use lib.ListN.{length, take}
 use Rattle.ranges.specs.Unique.{Only, One}
+use Rattle.ranges.specs.Bounds.{CountBounds}
 use Rattle.ranges.specs.Below.{Below}
 use Rattle.ranges.specs.Walk.{Walk}
 use Rattle.ranges.proofs.Below.{below-take, below-drop}
@@ -40,17 +41,17 @@ use Rattle.plan.specs.declared.points.Shift.{Shift}
 use Rattle.plan.specs.Pair.{generators, scrambling, sequence, largest-level, unknown-level, Level, loaded}
 use Rattle.plan.specs.Lists.{visits-walked}
 use Rattle.plan.proofs.Loading.{loaded-accepted}
-use Rattle.plan.proofs.Lists.{filled-visits, opened, within, steps, walk-visits, last-walk}
+use Rattle.plan.proofs.Lists.{filled-visits, filled-part, opened, within, steps, walk-visits, last-walk}
 use Rattle.plan.proofs.Level.{level-of}
 use Rattle.stratify.specs.Answers.{of-verdict, of-location, check-outcome, query-outcome, ShiftFits, Cell}
 use Rattle.stratify.specs.Theorem.{PlainRelation, VisitedOnce, Covered, RelatedToPlain, Queried, Checked, Lists, GivesRun}
-use Rattle.stratify.specs.Theorem.{StandardPair, Theorems}
+use Rattle.stratify.specs.Theorem.{Counted, CountedAnywhere, StandardPair, Theorems}
 use Rattle.stratify.proofs.OneByOne.{by-queries}
 use Rattle.stratify.proofs.Overviewed.{lengths-decide}
 use Rattle.stratify.proofs.Outcomes.{query-outcome-is, check-outcome-is, verdict-accepted, verdict-not-net, verdict-refuses}
 use Rattle.stratify.proofs.Outcomes.{location-accepted, location-not-net}
 
-lawful : (s : Shift) → ShiftFits s → Lawful 2 32 (scrambling s)
+pub lawful : (s : Shift) → ShiftFits s → Lawful 2 32 (scrambling s)
 lawful s words = record { x = shift-lawful one-lt-two 32 (s .x) (words .x); y = shift-lawful one-lt-two 32 (s .y) (words .y) }
 
 -- ---- 1, 2: a plan that passes
@@ -115,6 +116,27 @@ module _ {P : Plan} (valid : Valid (generators P)) {M : ℕ} (fits : M ≤ large
 
   related : RelatedToPlain P M
   related = relation
+
+  -- ---- 6: counts; each way gives the visits of the range
+
+  module _ (s : Shift) (words : ShiftFits s) (m a c r : ℕ) (size : m ≤ M) (wide : a ≤ m) (hc : c < 2 ^ a) (hr : r < 2 ^ (m - a))
+      (start n : ℕ) (some : 1 ≤ n) where
+    visited : CountBounds start n (2 ^ m) (hits (sequence P s) m a c r (visits (sequence P s) start n))
+    visited = N .counts (scrambling s) (lawful s words) m a c r size wide hc hr start n some
+
+    visited-in : (l : List Visit) → l ≡ visits (sequence P s) start n → CountBounds start n (2 ^ m) (hits (sequence P s) m a c r l)
+    visited-in l e = subst (λ (v : List Visit). CountBounds start n (2 ^ m) (hits (sequence P s) m a c r v)) (sym e) visited
+
+    counts : Counted P s m a c r start n
+    counts = record {
+      visited = visited;
+      points = visited;
+      fills = λ first xs ys e from long. visited-in _ (filled-part index-count (sequence P s) start n first xs ys e from long);
+      walks = λ count steps w e all. visited-in _ (walk-visits start count w e steps (sequence P s) ∙ ap (visits (sequence P s) start) all);
+    }
+
+  counted : CountedAnywhere P M
+  counted s words m a c r size wide hc hr start n some fits = counts s words m a c r size wide hc hr start n some
 
 -- ---- 3: the query
 
@@ -224,6 +246,9 @@ accepted-covered words below M e = let a = accepts words below M e in covered (a
 accepted-related : (words : List ℕ) → Below (2 ^ 32) words → (M : ℕ) → check-outcome words M ≡ accepted tt → RelatedToPlain (loaded words) M
 accepted-related words below M e = let a = accepts words below M e in related (a .valid) (a .known .not-above) (a .passes)
 
+accepted-counted : (words : List ℕ) → Below (2 ^ 32) words → (M : ℕ) → check-outcome words M ≡ accepted tt → CountedAnywhere (loaded words) M
+accepted-counted words below M e = let a = accepts words below M e in counted (a .valid) (a .known .not-above) (a .passes)
+
 -- ---- the standard pair
 
 standard-pair-theorem : StandardPair
@@ -236,12 +261,14 @@ standard-pair-theorem =
       passes = T .passes;
       covered = covered (T .valid) (omega arith) (T .passes);
       related = related (T .valid) (omega arith) (T .passes);
+      counted = counted (T .valid) (omega arith) (T .passes);
     }
 
 pub theorems : Theorems
 theorems = record {
   covered = covered;
   related = related;
+  counted = counted;
   queried = queried;
   size-zero = size-zero;
   overview-lengths = lengths-decide;
@@ -249,6 +276,7 @@ theorems = record {
   checked = checked;
   accepted-covered = accepted-covered;
   accepted-related = accepted-related;
+  accepted-counted = accepted-counted;
   unshifted = λ P. net.theorems .unshifted (generators P) one-lt-two;
   lists = lists;
   gives-run = gives-run;

@@ -1,6 +1,7 @@
--- Demand 3 of 01, and C-14's overview, about the definitions that the contracts cite: `sequence`, `filled`, `step`, `check-outcome`,
--- `query-outcome`, `overview-outcome`. First the statements, as records; at the end `Theorems`, the whole list with the assumptions of each, of
--- which proofs/Theorem gives one term. `sequence P s` is the points of the plan P (01: the pair) under the shift s (01: the scramble).
+-- Demand 3 of 01, C-14's overview and C-15's counts, about the definitions that the contracts cite: `sequence`, `filled`, `step`,
+-- `check-outcome`, `query-outcome`, `overview-outcome`. First the statements, as records; at the end `Theorems`, the whole list with the
+-- assumptions of each, of which proofs/Theorem gives one term. `sequence P s` is the points of the plan P (01: the pair) under the shift s
+-- (01: the scramble).
 use mathlib.Core.Path.{_≡_}
 use mathlib.Core.Logic.{_≢_, _↔_}
 use mathlib.Core.List.{List, []}
@@ -8,6 +9,7 @@ use Prim.Native.Nat.{ℕ, _+_, _-_, _*_, _%_, _^_, _≤_, _<_, min}
 use lib.Bits.{bitXor}
 use lib.ListN.{length, getD, take, drop}
 use Rattle.ranges.specs.Unique.{Only, One}
+use Rattle.ranges.specs.Bounds.{CountBounds}
 use Rattle.ranges.specs.Below.{Below}
 use Rattle.ranges.specs.Walk.{Walk, answers, visits-then-end}
 use Rattle.ranges.specs.Theorem.{Walked, WalkedByHand}
@@ -114,6 +116,25 @@ pub record GivesRun (P : Plan) (s : Shift) (m k : ℕ) : Type 0 where
   pub walks : (count n : ℕ) (w : Walk) → open-outcome index-count (k * 2 ^ m) count ≡ accepted w
       → take (2 ^ m) (visits-walked (sequence P s) n w) ≡ take (min n count) (run (sequence P s) m k)
 
+-- ---- 6: counts that stop anywhere (C-15)
+
+-- how many of the n visits from start on lie in column c and row r of the shape (m, a); and of those visits as point calls give them, as any
+-- fill that goes over them writes them, and as a walk opened there gives them, n being the smaller of its count and the steps made
+pub record Counted (P : Plan) (s : Shift) (m a c r start n : ℕ) : Type 0 where
+  pub visited : CountBounds start n (2 ^ m) (hits (sequence P s) m a c r (visits (sequence P s) start n))
+  pub points : CountBounds start n (2 ^ m) (hits (sequence P s) m a c r (pointed (sequence P s) start n))
+  pub fills : (first : ℕ) (xs ys : List ℕ) → fill-outcome index-count first xs ys ≡ accepted tt → first ≤ start → start + n ≤ first + length xs
+      → CountBounds start n (2 ^ m)
+      (hits (sequence P s) m a c r (take n (drop (start - first) (held first (filled index-count (sequence P s) first xs ys)))))
+  pub walks : (count steps : ℕ) (w : Walk) → open-outcome index-count start count ≡ accepted w → min steps count ≡ n
+      → CountBounds start n (2 ^ m) (hits (sequence P s) m a c r (visits-walked (sequence P s) steps w))
+
+-- what passing level M is worth: this holds under every shift, in every cell of every shape of a size from 0 to M, for every start and every
+-- n from 1 on, as far as the indexes go
+abbrev pub CountedAnywhere : Plan → ℕ → Type 0
+CountedAnywhere P M = (s : Shift) → ShiftFits s → (m a c r : ℕ) → m ≤ M → a ≤ m → c < 2 ^ a → r < 2 ^ (m - a)
+    → (start n : ℕ) → 1 ≤ n → start + n ≤ index-count → Counted P s m a c r start n
+
 -- ---- the standard pair
 
 -- X column c is 2^(31 - c), Y has a one in row r, column c exactly when the binomial is odd, and the pair passes level 32
@@ -124,11 +145,13 @@ pub record StandardPair : Type 0 where
   pub passes : Passes (generators standard-pair) largest-level
   pub covered : Covered standard-pair largest-level
   pub related : RelatedToPlain standard-pair largest-level
+  pub counted : CountedAnywhere standard-pair largest-level
 
 pub record Theorems : Type 0 where
   -- of a plan whose columns are words (as the code's are)
   pub covered : {P : Plan} → Valid (generators P) → {M : ℕ} → M ≤ largest-level → Passes (generators P) M → Covered P M
   pub related : {P : Plan} → Valid (generators P) → {M : ℕ} → M ≤ largest-level → Passes (generators P) M → RelatedToPlain P M
+  pub counted : {P : Plan} → Valid (generators P) → {M : ℕ} → M ≤ largest-level → Passes (generators P) M → CountedAnywhere P M
   pub queried : {P : Plan} → Valid (generators P) → {s : Shift} → ShiftFits s
       → {level m a k c r : ℕ} → Level level → Cell level m a k c r → Queried P s level m a k c r
   -- (01: for m 0 the answer is the number of the block)
@@ -144,6 +167,8 @@ pub record Theorems : Type 0 where
   pub accepted-covered : (words : List ℕ) → Below (2 ^ 32) words → (M : ℕ) → check-outcome words M ≡ accepted tt → Covered (loaded words) M
   pub accepted-related : (words : List ℕ) → Below (2 ^ 32) words → (M : ℕ) → check-outcome words M ≡ accepted tt
       → RelatedToPlain (loaded words) M
+  pub accepted-counted : (words : List ℕ) → Below (2 ^ 32) words → (M : ℕ) → check-outcome words M ≡ accepted tt
+      → CountedAnywhere (loaded words) M
   -- of any plan and shift; 01's plain run, both scramble words 0, is the run of `plain`
   pub unshifted : (P : Plan) → sequence P (record { x = 0; y = 0 }) ≡ plain (generators P)
   pub lists : (P : Plan) (s : Shift) → Lists P s
