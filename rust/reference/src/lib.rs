@@ -1,6 +1,7 @@
-//! The reference visit planner: check, points, cell queries, overviews, fills,
-//! walks, unit numbers, the singles by cases, stage positions for a reader's
-//! field, and the region file with its listing and its sheet.
+//! The reference visit planner: check, points, cell queries, overviews, counts
+//! of the visits in a cell, fills, walks, unit numbers, the singles by cases,
+//! stage positions for a reader's field, and the region file with its listing
+//! and its sheet.
 //! All of it, the programs included, is written from documents 01, 02, 003 and
 //! 004 alone (README.md of the repository says what they are; where 02 leaves a
 //! reading open, docs/DECISIONS.md has ours) and not from the Rattle code, so
@@ -10,6 +11,7 @@
 #![forbid(unsafe_code)]
 
 pub mod check;
+pub mod counts;
 pub mod fill;
 pub mod filter;
 pub mod listing;

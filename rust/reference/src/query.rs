@@ -68,7 +68,7 @@ pub(crate) fn judge_block(m: u32, block: u32) -> Result<(), Refusal> {
 }
 
 /// The top bits of a word as a number; none of the bits means 0.
-fn top_bits(word: u32, count: u32) -> u32 {
+pub(crate) fn top_bits(word: u32, count: u32) -> u32 {
     (u64::from(word) >> (32 - count)) as u32
 }
 
