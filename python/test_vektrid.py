@@ -6,6 +6,7 @@ The tests that need numpy are skipped without it.
 """
 import _ctypes
 import array
+import collections
 import ctypes
 import doctest
 import glob
@@ -730,6 +731,74 @@ class Overviews(unittest.TestCase):
         self.refused(TypeError, r'\[2\] = 0.0 is no whole number', [0, 0, 0.0, 0])
         self.refused(ValueError, r'\[3\] = 4294967296 does not fit', (0, 0, 0, 2**32))
         self.refused(ValueError, r'\[1\] = -1 does not fit', range(0, -4, -1))
+
+
+# ---- counts that stop anywhere
+
+
+class Counts(unittest.TestCase):
+    """How many of n consecutive visits a cell holds. docs/COUNTS.md has tables of the bounds."""
+
+    def counted(self, n, m, a, start, pair=STANDARD, shift=(0, 0)):
+        """The number of visits of each cell that has any, as a fill gives them."""
+        return collections.Counter(cell_of(point, m, a) for point in zip(*pair.fill(start, n, shift)))
+
+    def test_formulas(self):
+        for m in range(33):
+            for n in (*range(1, 70), 2**m, min(2**m + 1, 2**32), 2**32 - 1, 2**32):
+                least, most = math.floor(Fraction(n + 1, 2**m)) - 1, math.ceil(Fraction(n - 1, 2**m)) + 1
+                self.assertEqual(vektrid.count_bounds(n, m), (max(least, 0), most), (n, m))
+
+    def test_blocks_from_a_start(self):
+        for m in range(4):
+            blocks = [range(k * 2**m, (k + 1) * 2**m) for k in range(40)]
+            for start in range(20):
+                for n in range(1, 20):
+                    seen = set(range(start, start + n))
+                    among, touched = sum(seen.issuperset(block) for block in blocks), sum(not seen.isdisjoint(block) for block in blocks)
+                    self.assertEqual(vektrid.count_bounds(n, m, start=start), (among, touched), (n, m, start))
+
+    def test_one_cell_holds_all(self):
+        for n in (1, 2, 50, 4096, 2**32):
+            self.assertEqual(vektrid.count_bounds(n, 0), (n, n))
+            self.assertEqual(vektrid.count_bounds(n, 0, start=2**32 - n), (n, n))
+
+    def test_both_bounds_are_met(self):
+        for n, (m, a), bounds, met in [(50, (4, 0), (2, 5), [(1, (0, 0), 2), (463, (0, 12), 5)]),
+                                       (64, (4, 2), (3, 5), [(1, (0, 0), 3), (1, (0, 2), 5)]),
+                                       (50, (6, 3), (0, 2), [(0, (0, 5), 0), (15, (0, 5), 2)])]:
+            self.assertEqual(vektrid.count_bounds(n, m), bounds)
+            for start, cell, count in met:
+                self.assertEqual(self.counted(n, m, a, start)[cell], count, (n, m, a, start, cell))
+
+    def test_not_every_shape_meets_them(self):
+        self.assertEqual(max(max(self.counted(50, 4, 2, start).values()) for start in range(256)), 4)
+
+    def test_no_cell_leaves_them(self):
+        for pair, shift in [(STANDARD, SHIFTS[0]), (STANDARD, SHIFTS[2]), (SWAPPED, SHIFTS[3])]:
+            for start, n in [(0, 50), (1, 64), (463, 50), (1000, 300), (LAST - 98, 99)]:
+                for m in range(9):
+                    for a in range(m + 1):
+                        counted = self.counted(n, m, a, start, pair, shift)
+                        smallest = min(counted.values()) if len(counted) == 2**m else 0
+                        for least, most in (vektrid.count_bounds(n, m), vektrid.count_bounds(n, m, start=start)):
+                            self.assertTrue(least <= smallest and max(counted.values()) <= most, (shift, start, n, m, a))
+
+    def test_arguments(self):
+        for name, call, low, high in [('n', lambda value: vektrid.count_bounds(value, 4), 1, 2**32),
+                                      ('m', lambda value: vektrid.count_bounds(50, value), 0, 32),
+                                      ('start', lambda value: vektrid.count_bounds(1, 4, start=value), 0, LAST)]:
+            for value in (low, high):
+                self.assertIsInstance(call(value), vektrid.CountBounds)
+            for value in (low - 1, high + 1, 10**5000):
+                self.assertRaisesRegex(ValueError, f'{name} = .* does not fit: a whole number from {low} to {high} is needed', call, value)
+            for value in (True, 1.0, '1', Fraction(1)):
+                self.assertRaisesRegex(TypeError, f'{name} = ', call, value)
+        self.assertRaises(TypeError, vektrid.count_bounds, None, 4)
+        self.assertRaises(TypeError, vektrid.count_bounds, 50, 4, 0)  # the start only by its name
+
+    def test_range_past_the_last_index(self):
+        self.assertRaisesRegex(vektrid.IndexRange, r'start = 4294967295, count = 2\b', vektrid.count_bounds, 2, 4, start=LAST)
 
 
 # ---- unit numbers and positions

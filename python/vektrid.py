@@ -2,6 +2,7 @@
 
 Every answer comes from the proved library, target/libvektrid.so (tools/archive makes it; its C interface is include/vektrid.h). This file only
 converts: it keeps from the library what the proofs assume cannot happen (a number that does not fit, a pointer to nothing, buffers that overlap).
+Only count_bounds asks nobody: it is arithmetic, by bounds that are proved.
 
 A refused call raises the subclass of Refusal for its line of the refusal table (docs/REFUSALS.md), and lent buffers keep their content. A number
 that is no whole number raises TypeError, and one that has no place in the library's 32 or 64 bits raises ValueError; nothing is cut or rounded
@@ -36,10 +37,10 @@ from typing import NamedTuple
 
 __all__ = ['ABI', 'Refusal', 'WordCount', 'Level', 'NotNet', 'Size', 'Shape', 'Cell', 'Block', 'BufferLengths', 'IndexRange', 'RegionLimits',
            'FileLength', 'ReservedBytes', 'MissingRecord', 'ChainReturns', 'VisitCount', 'Field', 'Point', 'Singles', 'Visit', 'SinglesVisit',
-           'Position', 'FileVisit', 'Pair', 'Walk', 'SinglesWalk', 'Region', 'standard_point', 'double', 'single', 'judge', 'visits', 'listing',
-           'listing_pieces', 'sheet', 'sheet_pieces', 'sheet_pages', 'LARGEST_LEVEL', 'LAST_INDEX', 'LONGEST_LINE']
+           'Position', 'FileVisit', 'CountBounds', 'Pair', 'Walk', 'SinglesWalk', 'Region', 'standard_point', 'count_bounds', 'double', 'single',
+           'judge', 'visits', 'listing', 'listing_pieces', 'sheet', 'sheet_pieces', 'sheet_pages', 'LARGEST_LEVEL', 'LAST_INDEX', 'LONGEST_LINE']
 
-__version__ = '1.3.0'  # of the bindings; rust/vektrid has the same
+__version__ = '1.4.0'  # of the bindings; rust/vektrid has the same
 ABI = 4  # the number of the interface that this file is written for: VEKTRID_ABI of the header
 
 LARGEST_LEVEL = 32
@@ -258,6 +259,12 @@ class Position(NamedTuple):
     y: int
 
 
+class CountBounds(NamedTuple):
+    """The least and the most visits that a cell holds."""
+    least: int
+    most: int
+
+
 class FileVisit(NamedTuple):
     """A visit of a region file: the record's number in the file, the index in that record, and the position in micrometres."""
     record: int
@@ -367,7 +374,7 @@ _library = _load()
 
 
 def _whole(name, value, low=0, high=LAST_INDEX):
-    """An argument as an int within the library's type. ctypes would cut it to fit without a word."""
+    """An argument as an int within its range, as a rule the library's type. ctypes would cut it to fit without a word."""
     if isinstance(value, bool) or type(value).__name__ == 'bool_':  # numpy's, which some versions take for a number
         raise TypeError(f'{name} = {value} is a truth value; a whole number from {low} to {high} is needed')
     try:
@@ -376,7 +383,7 @@ def _whole(name, value, low=0, high=LAST_INDEX):
         raise TypeError(f'{name} = {value!r} is no whole number; one from {low} to {high} is needed') from None
     if not low <= number <= high:
         shown = number if number.bit_length() < 256 else f'a number of {number.bit_length()} bits'  # Python does not print the longest
-        raise ValueError(f'{name} = {shown} does not fit: the library takes {low} to {high}')
+        raise ValueError(f'{name} = {shown} does not fit: a whole number from {low} to {high} is needed')
     return number
 
 
@@ -724,6 +731,40 @@ def standard_point(index, shift=(0, 0)):
     x, y = ctypes.c_uint32(), ctypes.c_uint32()
     _library.vektrid_standard_point(*_shift(shift), _whole('index', index), x, y)
     return Point(x.value, y.value)
+
+
+# ---- counts that stop anywhere
+
+
+def _ceiling(n, d):
+    """n / d rounded up."""
+    return -(-n // d)
+
+
+def count_bounds(n, m, *, start=None):
+    """How many of n consecutive visits a cell of a shape (m, a) holds: the least and the most. Gives a CountBounds (least, most).
+
+    They hold for every a, in every cell, under every shift, for every pair that passes a level of m or more, wherever the visits begin: at least
+    floor((n + 1) / 2^m) - 1, or 0 where that is below 0, and at most ceil((n - 1) / 2^m) + 1. Both are proved (docs/COUNTS.md).
+
+    `start`, the index of the first visit, narrows them: at least one for each block of 2^m visits that lies among the n, and at most one for each
+    block that they touch.
+
+    n is 1 to 2^32, m 0 to 32. Refused: IndexRange, where start + n is above 2^32.
+
+    >>> import vektrid
+    >>> vektrid.count_bounds(50, 4)
+    CountBounds(least=2, most=5)
+    >>> vektrid.count_bounds(50, 4, start=0)
+    CountBounds(least=3, most=4)
+    """
+    n, size = _whole('n', n, 1, LAST_INDEX + 1), 2**_whole('m', m, 0, LARGEST_LEVEL)
+    if start is None:
+        return CountBounds(max((n + 1) // size - 1, 0), _ceiling(n - 1, size) + 1)
+    start = _whole('start', start)
+    if start + n > LAST_INDEX + 1:
+        raise IndexRange(start=start, count=n)
+    return CountBounds(max((start + n) // size - _ceiling(start, size), 0), _ceiling(start + n, size) - start // size)
 
 
 # ---- unit numbers

@@ -35,9 +35,9 @@ module _ {B : ℕ} (pos : 0 < B) where
       let reached = ceiling-is (n - 1) B pos .reaches in
       ceiling-is (s + n) B pos .least (q + (e + 1)) (omega arith)
 
-  -- and has no fewer blocks among it than C-15's least
-  among-ge : (s n : ℕ) → (n + 1) / B + ceiling s B ≤ (s + n) / B + 1
-  among-ge s n =
+  -- and has no fewer whole blocks than C-15's least
+  whole-ge : (s n : ℕ) → (n + 1) / B + ceiling s B ≤ (s + n) / B + 1
+  whole-ge s n =
       let f : ℕ = (n + 1) / B in
       let u : ℕ = (s + n) / B in
       let ends = lt-div-mul-add {a = s + n} pos in
@@ -101,9 +101,9 @@ module _ (test : ℕ → Bool) where
         let most = below-most (s + n) fits in
         record {
           most = omega (arith, touched-le pos s n some);
-          least = omega (arith, among-ge pos s n);
+          least = omega (arith, whole-ge pos s n);
           touched = omega arith;
-          among = omega arith;
+          whole = omega arith;
         }
 
 -- that B is not 0 follows
@@ -117,11 +117,11 @@ count-bounds test B K each start n some fits = bounded test B K (positive B fits
 
 -- ---- what the bounds come to
 
-pub from-block : {B : ℕ} → 0 < B → (k n held : ℕ) → CountBounds (k * B) n B held → (n / B ≤ held) × (held ≤ ceiling n B)
-from-block {B} pos k n held bounds =
+pub from-block : {B : ℕ} → 0 < B → (k n many : ℕ) → CountBounds (k * B) n B many → (n / B ≤ many) × (many ≤ ceiling n B)
+from-block {B} pos k n many bounds =
     let first : k * B / B ≡ k = mul-div-cancel k pos in
     let up : ceiling (k * B) B ≤ k = ceiling-is (k * B) B pos .least k (omega arith) in
-    let among = bounds .among in
+    let whole = bounds .whole in
     let touched = bounds .touched in
     let inner = div-mul-le-self n B in
     let low : k + n / B ≤ (k * B + n) / B = le-div-iff-mul-le {x = k + n / B} {y = k * B + n} pos .1 (omega arith) in
@@ -129,6 +129,6 @@ from-block {B} pos k n held bounds =
     let high : ceiling (k * B + n) B ≤ k + ceiling n B = ceiling-is (k * B + n) B pos .least (k + ceiling n B) (omega arith) in
     (omega arith, omega arith)
 
-pub blocks-of-one : (start n held : ℕ) → 1 ≤ n → CountBounds start n 1 held → held ≡ n
+pub blocks-of-one : (start n many : ℕ) → 1 ≤ n → CountBounds start n 1 many → many ≡ n
 unfolding ceiling
-blocks-of-one start n held some bounds = omega arith
+blocks-of-one start n many some bounds = omega arith

@@ -18,11 +18,11 @@ pub record IsCeiling (n d q : ℕ) : Type 0 where
 abbrev pub OneInEach : (ℕ → Bool) → (B K : ℕ) → Type 0
 OneInEach test B K = (k : ℕ) → k < K → count test (range (k * B) B) ≡ 1
 
--- `held` of the n numbers from start on pass, where n is not 0. By C-15, wherever they begin, at most ceil((n - 1) / B) + 1 and at least
--- floor((n + 1) / B) - 1 do; a difference is never below 0. Where the start is known: at most one for each block that they touch, and at
--- least one for each block that lies among them.
-pub record CountBounds (start n B held : ℕ) : Type 0 where
-  pub most : held ≤ ceiling (n - 1) B + 1
-  pub least : (n + 1) / B - 1 ≤ held
-  pub touched : held ≤ ceiling (start + n) B - start / B
-  pub among : (start + n) / B - ceiling start B ≤ held
+-- `many` of the n numbers from start on pass, n being 1 or more. Wherever they begin, that is at most ceil((n - 1) / B) + 1 and at least
+-- floor((n + 1) / B) - 1 (C-15); a difference is never below 0. From a known start on, it is at most the number of blocks that they touch, and
+-- at least the number of blocks that lie whole among them.
+pub record CountBounds (start n B many : ℕ) : Type 0 where
+  pub most : many ≤ ceiling (n - 1) B + 1
+  pub least : (n + 1) / B - 1 ≤ many
+  pub touched : many ≤ ceiling (start + n) B - start / B
+  pub whole : (start + n) / B - ceiling start B ≤ many

@@ -31,9 +31,10 @@ pub record Theorems : Type 1 where
   -- of any n numbers among the first K blocks
   pub count-bounds : (test : ℕ → Bool) (B K : ℕ) → OneInEach test B K
       → (start n : ℕ) → 1 ≤ n → start + n ≤ K * B → CountBounds start n B (count test (range start n))
-  -- what the bounds come to from the first number of a block on: n / B rounded down, and up; and in blocks of one number: n itself
-  pub from-block : {B : ℕ} → 0 < B → (k n held : ℕ) → CountBounds (k * B) n B held → (n / B ≤ held) × (held ≤ ceiling n B)
-  pub blocks-of-one : (start n held : ℕ) → 1 ≤ n → CountBounds start n 1 held → held ≡ n
+  -- what these bounds come to from the first number of a block on: n / B, rounded down and up
+  pub from-block : {B : ℕ} → 0 < B → (k n many : ℕ) → CountBounds (k * B) n B many → (n / B ≤ many) × (many ≤ ceiling n B)
+  -- and in blocks of one number: both are n
+  pub blocks-of-one : (start n many : ℕ) → 1 ≤ n → CountBounds start n 1 many → many ≡ n
   -- of walks over any visits
   pub walked : {A : Type 0} (visit-of : ℕ → A) (last start count n : ℕ) → start ≤ last → start + count ≤ suc last
       → Walked visit-of last start count n

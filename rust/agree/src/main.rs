@@ -8,6 +8,7 @@
 
 mod case;
 mod checks;
+mod counts;
 mod files;
 mod fills;
 mod limits;
@@ -75,6 +76,7 @@ fn all(seed: u64) -> Result<(), String> {
     compare::<walks::Steps>(seed)?;
     compare::<queries::Query>(seed)?;
     compare::<overviews::Overview>(seed)?;
+    compare::<counts::Count>(seed)?;
     compare::<word_counts::WordCount>(seed)?;
     compare::<units::Unit>(seed)?;
     compare::<positions::PositionIn>(seed)?;
