@@ -1,8 +1,8 @@
 """Vektrid, the proved visit planner, in Python: points of a (0,2)-sequence and back, stage positions, region files.
 
-Every answer comes from the proved library, target/libvektrid.so (tools/archive makes it; its C interface is include/vektrid.h). This file only
-converts: it keeps from the library what the proofs assume cannot happen (a number that does not fit, a pointer to nothing, buffers that overlap).
-Only count_bounds asks nobody: it is arithmetic, by bounds that are proved.
+Every answer but that of count_bounds, which is arithmetic by proved bounds, comes from the proved library, target/libvektrid.so (tools/archive makes
+it; its C interface is include/vektrid.h). This file only converts: it keeps from the library what the proofs assume cannot happen (a number that does
+not fit, a pointer to nothing, buffers that overlap).
 
 A refused call raises the subclass of Refusal for its line of the refusal table (docs/REFUSALS.md), and lent buffers keep their content. A number
 that is no whole number raises TypeError, and one that has no place in the library's 32 or 64 bits raises ValueError; nothing is cut or rounded
@@ -750,7 +750,7 @@ def count_bounds(n, m, *, start=None):
     `start`, the index of the first visit, narrows them: at least one for each block of 2^m visits that lies among the n, and at most one for each
     block that they touch.
 
-    n is 1 to 2^32, m 0 to 32. Refused: IndexRange, where start + n is above 2^32.
+    n is 1 to 2^32, m 0 to 32, start 0 to 2^32 - 1. Refused: IndexRange, where start + n is above 2^32.
 
     >>> import vektrid
     >>> vektrid.count_bounds(50, 4)

@@ -47,7 +47,7 @@ class Tables:
         text = self.read()
         for name, header, rows in self.tables:
             if self.parted(text, name)[1].splitlines() != header + rows:
-                self.fail(f'{self.page} shows other {name} than the tool makes: tools/{self.tool} --store')
+                self.fail(f'the table of {self.page} named "{name}" is not what the tool makes: tools/{self.tool} --store')
         program = f'{ROOT}/rust/target/release/{self.program}'
         if not os.path.exists(program):
             self.fail(f'rust/compare has not made the program {self.program}')

@@ -61,8 +61,8 @@ walked-run S m k last count n room = record {
 
 -- ---- counts that stop anywhere
 
-pub counted : (S : Sequence) (m a c r K : ℕ) → ((k : ℕ) → k < K → hits S m a c r (run S m k) ≡ 1)
-    → (start n : ℕ) → 1 ≤ n → start + n ≤ K * S .b ^ m → CountBounds start n (S .b ^ m) (hits S m a c r (visits S start n))
-counted S m a c r K each start n some fits =
+pub counted : (S : Sequence) (m a c r : ℕ) → ((k : ℕ) → hits S m a c r (run S m k) ≡ 1)
+    → (start n : ℕ) → 1 ≤ n → CountBounds start n (S .b ^ m) (hits S m a c r (visits S start n))
+counted S m a c r each start n some =
     subst (CountBounds start n (S .b ^ m)) (sym (hits-lies S m a c r start n))
-    (count-bounds (lies S m a c r) (S .b ^ m) K (λ k h. sym (hits-lies S m a c r (k * S .b ^ m) (S .b ^ m)) ∙ each k h) start n some fits)
+    (count-bounds (lies S m a c r) (S .b ^ m) (λ k. sym (hits-lies S m a c r (k * S .b ^ m) (S .b ^ m)) ∙ each k) start n some)

@@ -1,6 +1,6 @@
 -- Not every shape reaches the bounds of C-15. Of 50 consecutive visits of the standard matrices in base two, under any lawful scrambling, no
--- interval of the shape (4, 2) has 5, which is the bound. The idea: 5 would need the last index of a block and an index of the fifth block
--- after it in one column, but one of the two is odd and the other even. Assumes nothing.
+-- interval of the shape (4, 2) has 5, which is the bound. The idea: 5 would need the last index of a block and the first of the fourth block
+-- after it, which is 49 further on, in one column; but one of the two is odd and the other even. Assumes nothing.
 use mathlib.Core.Path.{_≡_, refl, sym, ap, _∙_, subst}
 use mathlib.Core.Logic.{_⊎_, inl, inr}
 use mathlib.Core.Bool.{Bool, true, false}
@@ -8,10 +8,11 @@ use Prim.Native.Nat.{ℕ, _+_, _*_, _/_, _%_, _^_, _≤_, _<_}
 use native.Mathlib.Omega.{arith}
 use Rattle.ranges.specs.Range.{range}
 use Rattle.ranges.specs.Count.{indicator, count}
-use Rattle.ranges.specs.Bounds.{ceiling, OneInEach, CountBounds}
+use Rattle.ranges.specs.Bounds.{ceiling, CountBounds}
 use Rattle.ranges.proofs.Order.{lt-or-ge}
-use Rattle.ranges.proofs.Bounds.{count-add, count-bounds}
-use Rattle.digits.specs.Digits.{digit, reversed}
+use Rattle.ranges.proofs.Count.{count-add}
+use Rattle.ranges.proofs.Bounds.{count-bounds}
+use Rattle.digits.specs.Digits.{reversed}
 use Rattle.digits.proofs.Two.{one-lt-two}
 use Rattle.digits.proofs.Reversed.{digit-reversed}
 use Rattle.linear.proofs.Prime.{two}
@@ -24,12 +25,12 @@ use Rattle.net.proofs.VisitIndex.{of-lies}
 use Rattle.net.proofs.Run.{hits-lies}
 use Rattle.net.proofs.Theorem.{theorems}
 
--- ---- any test that one of each 16 numbers passes, and never the last of them together with the 49th number after it
+-- ---- any test that one number of each block of 16 passes, and no number together with the 49th after it
 
 module _ (test : ℕ → Bool) (each : (k : ℕ) → count test (range (k * 16) 16) ≡ 1)
     (apart : (i : ℕ) → test i ≡ true → test (i + 49) ≡ true → ⊥) where
   bounds : (s n : ℕ) → 1 ≤ n → CountBounds s n 16 (count test (range s n))
-  bounds s n some = count-bounds test 16 (s + n) (λ k _. each k) s n some (omega arith)
+  bounds = count-bounds test 16 each
 
   not-both : (i : ℕ) (b c : Bool) → test i ≡ b → test (i + 49) ≡ c → indicator b + indicator c ≤ 1
   unfolding indicator

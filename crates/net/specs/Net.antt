@@ -1,4 +1,5 @@
--- Statements on one visit in each interval: the net theorem, the relation to the plain run, the test by determinants, the standard matrices.
+-- Statements on one visit in each interval: the net theorem, the relation to the plain run, the test by determinants, the standard matrices;
+-- and on how many of consecutive visits an interval then has.
 use mathlib.Core.Path.{_≡_}
 use mathlib.Core.Logic.{_≢_, _↔_}
 use Prim.Native.Nat.{ℕ, suc, _+_, _-_, _*_, _/_, _%_, _^_, _≤_, _<_}
@@ -35,7 +36,7 @@ pub record NetTest (G : Generators) (m a : ℕ) : Type 0 where
   pub stratified-iff : (determinant G m a ≢ 0) ↔ Stratified G m a
 
 -- what passing level M is worth: the same in every shape of a size from 0 to M; each block is a (0, m, 2)-net in the words of the literature, and
--- its run has one visit in each interval; and how many of n visits from any start on an interval then has (C-15)
+-- its run has one visit in each interval; and between which bounds the number of any n consecutive visits in an interval lies (C-15)
 pub record Net (G : Generators) (M : ℕ) : Type 0 where
   pub stratified : (m a : ℕ) → m ≤ M → a ≤ m → Stratified G m a
   pub one-hit : (F : Scrambling) → Lawful (G .b) (G .R) F → (m a k c r : ℕ) → m ≤ M → a ≤ m → c < G .b ^ a → r < G .b ^ (m - a)

@@ -39,7 +39,7 @@ filled-visits n S start xs ys e =
     ∙ ap (λ (l : ℕ). paired start (map (S .x) (range start (length xs))) (map (S .y) (range start l))) (sym equal)
     ∙ paired-each S start (length xs)
 
--- of a fill from first on, the part that the indexes from start on have: after start - first words, count of them
+-- of what a fill from index `first` on writes, leave out start - first visits and take `count`: these are the visits from `start` on
 pub filled-part : (n : ℕ) (S : Sequence) (start count first : ℕ) (xs ys : List ℕ) → fill-outcome n first xs ys ≡ accepted tt
     → first ≤ start → start + count ≤ first + length xs
     → take count (drop (start - first) (held first (filled n S first xs ys))) ≡ visits S start count

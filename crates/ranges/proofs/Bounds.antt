@@ -3,7 +3,6 @@
 -- difference of two of these. Assumes nothing.
 use mathlib.Core.Path.{_≡_, ap, ap₂, _∙_}
 use mathlib.Core.Bool.{Bool}
-use mathlib.Core.List.{List, [], _∷_, _++_}
 use Prim.Native.Nat.{ℕ, zero, suc, _+_, _-_, _*_, _/_, _≤_, _<_}
 use native.Mathlib.Nat.{zero-add, zero-mul, mul-div-cancel, div-mul-le-self, lt-div-mul-add, div-lt-iff-lt-mul, le-div-iff-mul-le}
 use native.Mathlib.Numerals.{add-one}
@@ -11,7 +10,7 @@ use native.Mathlib.Omega.{arith}
 use Rattle.ranges.specs.Range.{range}
 use Rattle.ranges.specs.Count.{count}
 use Rattle.ranges.specs.Bounds.{ceiling, IsCeiling, OneInEach, CountBounds}
-use Rattle.ranges.proofs.Range.{range-add}
+use Rattle.ranges.proofs.Count.{count-add}
 
 pub ceiling-is : (n d : ℕ) → 0 < d → IsCeiling n d (ceiling n d)
 unfolding ceiling
@@ -53,52 +52,39 @@ module _ {B : ℕ} (pos : 0 < B) where
 -- ---- counts
 
 module _ (test : ℕ → Bool) where
-  count-append : (l r : List ℕ) → count test (l ++ r) ≡ count test l + count test r
-  unfolding count
-  count-append [] r = omega arith
-  count-append (i ∷ l) r = omega (arith, count-append l r)
-
-  pub count-add : (s p q : ℕ) → count test (range s (p + q)) ≡ count test (range s p) + count test (range (s + p) q)
-  count-add s p q = ap (count test) (range-add s p q) ∙ count-append (range s p) (range (s + p) q)
-
   -- how many of the numbers below x pass
   unfoldable below : ℕ → ℕ
   below x = count test (range 0 x)
 
   below-add : (x n : ℕ) → below (x + n) ≡ below x + count test (range x n)
   unfolding below
-  below-add x n = count-add 0 x n ∙ ap (λ (s : ℕ). count test (range 0 x) + count test (range s n)) (zero-add x)
+  below-add x n = count-add test 0 x n ∙ ap (λ (s : ℕ). count test (range 0 x) + count test (range s n)) (zero-add x)
 
   below-grows : (x y : ℕ) → x ≤ y → below x ≤ below y
   below-grows x y l = let e : y ≡ x + (y - x) = omega arith in omega (arith, ap below e, below-add x (y - x))
 
-  module _ (B K : ℕ) (pos : 0 < B) (each : OneInEach test B K) where
+  module _ (B : ℕ) (pos : 0 < B) (each : OneInEach test B) where
     -- the first k blocks have k
-    below-blocks : (k : ℕ) → k ≤ K → below (k * B) ≡ k
+    below-blocks : (k : ℕ) → below (k * B) ≡ k
     unfolding below count range
-    below-blocks zero h = ap below (zero-mul B)
-    below-blocks (suc k) h =
+    below-blocks zero = ap below (zero-mul B)
+    below-blocks (suc k) =
         let e : suc k * B ≡ k * B + B = omega arith in
-        ap below e ∙ below-add (k * B) B ∙ ap₂ (λ (x y : ℕ). x + y) (below-blocks k (omega arith)) (each k h) ∙ add-one k
+        ap below e ∙ below-add (k * B) B ∙ ap₂ (λ (x y : ℕ). x + y) (below-blocks k) (each k) ∙ add-one k
 
-    below-least : (x : ℕ) → x ≤ K * B → x / B ≤ below x
-    below-least x l =
-        let within : x < suc K * B = omega arith in
-        let q-le = div-lt-iff-lt-mul {x = x} {y = suc K} pos .1 within in
-        omega (arith, below-grows (x / B * B) x (div-mul-le-self x B), below-blocks (x / B) (omega arith))
+    below-least : (x : ℕ) → x / B ≤ below x
+    below-least x = omega (arith, below-grows (x / B * B) x (div-mul-le-self x B), below-blocks (x / B))
 
-    below-most : (x : ℕ) → x ≤ K * B → below x ≤ ceiling x B
-    below-most x l =
-        let c = ceiling-is x B pos in
-        omega (arith, below-grows x (ceiling x B * B) (c .reaches), below-blocks (ceiling x B) (c .least K l))
+    below-most : (x : ℕ) → below x ≤ ceiling x B
+    below-most x = omega (arith, below-grows x (ceiling x B * B) (ceiling-is x B pos .reaches), below-blocks (ceiling x B))
 
-    bounded : (s n : ℕ) → 1 ≤ n → s + n ≤ K * B → CountBounds s n B (count test (range s n))
-    bounded s n some fits =
+    bounded : (s n : ℕ) → 1 ≤ n → CountBounds s n B (count test (range s n))
+    bounded s n some =
         let split = below-add s n in
-        let before-least = below-least s (omega arith) in
-        let before-most = below-most s (omega arith) in
-        let least = below-least (s + n) fits in
-        let most = below-most (s + n) fits in
+        let before-least = below-least s in
+        let before-most = below-most s in
+        let least = below-least (s + n) in
+        let most = below-most (s + n) in
         record {
           most = omega (arith, touched-le pos s n some);
           least = omega (arith, whole-ge pos s n);
@@ -106,14 +92,11 @@ module _ (test : ℕ → Bool) where
           whole = omega arith;
         }
 
--- that B is not 0 follows
-pub count-bounds : (test : ℕ → Bool) (B K : ℕ) → OneInEach test B K
-    → (start n : ℕ) → 1 ≤ n → start + n ≤ K * B → CountBounds start n B (count test (range start n))
-count-bounds test B K each start n some fits = bounded test B K (positive B fits) each start n some fits
-  where
-    positive : (B : ℕ) → start + n ≤ K * B → 0 < B
-    positive zero f = absurd (omega arith)
-    positive (suc B) f = omega arith
+-- that B is not 0 follows, since a block of 0 numbers has none that passes
+pub count-bounds : (test : ℕ → Bool) (B : ℕ) → OneInEach test B → (start n : ℕ) → 1 ≤ n → CountBounds start n B (count test (range start n))
+unfolding count range
+count-bounds test zero each start n some = absurd (omega (arith, each 0))
+count-bounds test (suc B) each start n some = bounded test (suc B) (omega arith) each start n some
 
 -- ---- what the bounds come to
 
@@ -129,6 +112,6 @@ from-block {B} pos k n many bounds =
     let high : ceiling (k * B + n) B ≤ k + ceiling n B = ceiling-is (k * B + n) B pos .least (k + ceiling n B) (omega arith) in
     (omega arith, omega arith)
 
-pub blocks-of-one : (start n many : ℕ) → 1 ≤ n → CountBounds start n 1 many → many ≡ n
+pub blocks-of-one : (n : ℕ) → 1 ≤ n → ((n + 1) / 1 - 1 ≡ n) × (ceiling (n - 1) 1 + 1 ≡ n)
 unfolding ceiling
-blocks-of-one start n many some bounds = omega arith
+blocks-of-one n some = (omega arith, omega arith)

@@ -1,14 +1,15 @@
--- How many numbers of a range pass a test: none, or just one. Assumes nothing.
+-- How many numbers of a range pass a test: those of two parts, none, or just one. Assumes nothing.
 use mathlib.Core.Path.{_≡_, refl, ap, ap₂, _∙_}
 use mathlib.Core.Logic.{_⊎_, inl, inr}
 use mathlib.Core.Bool.{Bool, true, false}
-use mathlib.Core.List.{List, [], _∷_, map}
+use mathlib.Core.List.{List, [], _∷_, _++_, map}
 use Prim.Native.Nat.{ℕ, zero, suc, _+_, _≤_, _<_}
 use native.Mathlib.Omega.{arith}
 use Rattle.ranges.specs.Range.{range}
 use Rattle.ranges.specs.Count.{indicator, count}
 use Rattle.ranges.proofs.Order.{eq-or-ne}
 use Rattle.ranges.proofs.Search.{clash}
+use Rattle.ranges.proofs.Range.{range-add}
 
 pub count-map : {A : Type 0} (test : A → Bool) (f : ℕ → A) (l : List ℕ) → count test (map f l) ≡ count (λ i. test (f i)) l
 unfolding count
@@ -16,6 +17,15 @@ count-map test f [] = refl
 count-map test f (i ∷ l) = rw (count-map test f l) refl
 
 module _ (test : ℕ → Bool) where
+  count-append : (l r : List ℕ) → count test (l ++ r) ≡ count test l + count test r
+  unfolding count
+  count-append [] r = omega arith
+  count-append (i ∷ l) r = omega (arith, count-append l r)
+
+  -- a range in two parts
+  pub count-add : (s p q : ℕ) → count test (range s (p + q)) ≡ count test (range s p) + count test (range (s + p) q)
+  count-add s p q = ap (count test) (range-add s p q) ∙ count-append (range s p) (range (s + p) q)
+
   -- none of the range, and just one
   pub count-none : (s n : ℕ) → ((i : ℕ) → s ≤ i → i < s + n → test i ≡ false) → count test (range s n) ≡ 0
   unfolding count range indicator

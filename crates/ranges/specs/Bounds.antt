@@ -1,7 +1,7 @@
 -- How many of n consecutive numbers pass a test, where of each block of B numbers exactly one does (C-15).
 use mathlib.Core.Path.{_≡_}
 use mathlib.Core.Bool.{Bool}
-use Prim.Native.Nat.{ℕ, _+_, _-_, _*_, _/_, _≤_, _<_}
+use Prim.Native.Nat.{ℕ, _+_, _-_, _*_, _/_, _≤_}
 use Rattle.ranges.specs.Range.{range}
 use Rattle.ranges.specs.Count.{count}
 
@@ -14,9 +14,9 @@ pub record IsCeiling (n d q : ℕ) : Type 0 where
   pub reaches : n ≤ q * d
   pub least : (p : ℕ) → n ≤ p * d → q ≤ p
 
--- of each of the first K blocks of B numbers exactly one passes; block k begins at k * B
-abbrev pub OneInEach : (ℕ → Bool) → (B K : ℕ) → Type 0
-OneInEach test B K = (k : ℕ) → k < K → count test (range (k * B) B) ≡ 1
+-- of each block of B numbers exactly one passes; block k begins at k * B
+abbrev pub OneInEach : (ℕ → Bool) → ℕ → Type 0
+OneInEach test B = (k : ℕ) → count test (range (k * B) B) ≡ 1
 
 -- `many` of the n numbers from start on pass, n being 1 or more. Wherever they begin, that is at most ceil((n - 1) / B) + 1 and at least
 -- floor((n + 1) / B) - 1 (C-15); a difference is never below 0. From a known start on, it is at most the number of blocks that they touch, and

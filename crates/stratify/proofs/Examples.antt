@@ -27,10 +27,10 @@ module _ (s : Shift) (fits : ShiftFits s) where
     once 4 1 268435455 1 7 (lit≤ tt) (lit≤ tt) (lit< tt) (lit< tt) (lit< tt),
   )
 
-  -- 50 visits never have 5 in one cell of the shape (4, 2), although no less than 5 is the bound for every shape of that size
+  -- a cell of the shape (4, 2) never has 5 of 50 visits, although the bound for every shape of that size is 5
   never-five : (c r start : ℕ) → c < 4 → r < 4 → hits (sequence standard-pair s) 4 2 c r (visits (sequence standard-pair s) start 50) ≤ 4
   never-five = unreached.never-five (scrambling s) (lawful s fits)
 
--- the bounds of C-15 are reached without a shift, in three shapes, from starts in the middle of a block
+-- the bounds of C-15 are reached, without a shift, in three shapes
 reached : Reached (sequence standard-pair (record { x = 0; y = 0 }))
 reached = subst Reached (sym (theorems .unshifted standard-pair)) net.reached

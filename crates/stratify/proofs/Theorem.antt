@@ -121,22 +121,22 @@ module _ {P : Plan} (valid : Valid (generators P)) {M : ℕ} (fits : M ≤ large
 
   module _ (s : Shift) (words : ShiftFits s) (m a c r : ℕ) (size : m ≤ M) (wide : a ≤ m) (hc : c < 2 ^ a) (hr : r < 2 ^ (m - a))
       (start n : ℕ) (some : 1 ≤ n) where
-    visited : CountBounds start n (2 ^ m) (hits (sequence P s) m a c r (visits (sequence P s) start n))
-    visited = N .counts (scrambling s) (lawful s words) m a c r size wide hc hr start n some
+    of-visits : CountBounds start n (2 ^ m) (hits (sequence P s) m a c r (visits (sequence P s) start n))
+    of-visits = N .counts (scrambling s) (lawful s words) m a c r size wide hc hr start n some
 
-    visited-in : (l : List Visit) → l ≡ visits (sequence P s) start n → CountBounds start n (2 ^ m) (hits (sequence P s) m a c r l)
-    visited-in l e = subst (λ (v : List Visit). CountBounds start n (2 ^ m) (hits (sequence P s) m a c r v)) (sym e) visited
+    of-list : (l : List Visit) → l ≡ visits (sequence P s) start n → CountBounds start n (2 ^ m) (hits (sequence P s) m a c r l)
+    of-list l e = subst (λ (v : List Visit). CountBounds start n (2 ^ m) (hits (sequence P s) m a c r v)) (sym e) of-visits
 
     counts : Counted P s m a c r start n
     counts = record {
-      visited = visited;
-      points = visited;
-      fills = λ first xs ys e from long. visited-in _ (filled-part index-count (sequence P s) start n first xs ys e from long);
-      walks = λ count steps w e all. visited-in _ (walk-visits start count w e steps (sequence P s) ∙ ap (visits (sequence P s) start) all);
+      of-visits = of-visits;
+      points = of-visits;
+      fills = λ first xs ys e from long. of-list _ (filled-part index-count (sequence P s) start n first xs ys e from long);
+      walks = λ count steps w e all. of-list _ (walk-visits start count w e steps (sequence P s) ∙ ap (visits (sequence P s) start) all);
     }
 
   counted : CountedAnywhere P M
-  counted s words m a c r size wide hc hr start n some fits = counts s words m a c r size wide hc hr start n some
+  counted s words m a c r size wide hc hr start n some _ = counts s words m a c r size wide hc hr start n some
 
 -- ---- 3: the query
 

@@ -118,10 +118,11 @@ pub record GivesRun (P : Plan) (s : Shift) (m k : ℕ) : Type 0 where
 
 -- ---- 6: counts that stop anywhere (C-15)
 
--- how many of the n visits from start on lie in column c and row r of the shape (m, a); and of those visits as point calls give them, as any
--- fill that goes over them writes them, and as a walk opened there gives them, n being the smaller of its count and the steps made
+-- Bounds of how many of the n visits from start on lie in column c and row r of the shape (m, a): of the visits by their definition, as point
+-- calls give them, as any fill that goes over them writes them, and as the steps of a walk opened at start give them, where n is the smaller
+-- of the walk's count and the steps made.
 pub record Counted (P : Plan) (s : Shift) (m a c r start n : ℕ) : Type 0 where
-  pub visited : CountBounds start n (2 ^ m) (hits (sequence P s) m a c r (visits (sequence P s) start n))
+  pub of-visits : CountBounds start n (2 ^ m) (hits (sequence P s) m a c r (visits (sequence P s) start n))
   pub points : CountBounds start n (2 ^ m) (hits (sequence P s) m a c r (pointed (sequence P s) start n))
   pub fills : (first : ℕ) (xs ys : List ℕ) → fill-outcome index-count first xs ys ≡ accepted tt → first ≤ start → start + n ≤ first + length xs
       → CountBounds start n (2 ^ m)

@@ -243,7 +243,7 @@ fn start(random: &mut Splitmix, m: u32, n: u64) -> u64 {
 mod tests {
     use super::*;
 
-    /// Counts of a shape whose determinant is even would show nothing.
+    /// A shape whose determinant is even may leave the bounds, and no one would be at fault.
     #[test]
     fn sizes_are_accepted() {
         for number in 0..2_000 {
@@ -254,7 +254,7 @@ mod tests {
         }
     }
 
-    /// Both bounds are met for some cells, or the comparison would not feel one that is wider.
+    /// Both bounds are met, so that the comparison feels one that is too narrow by 1.
     #[test]
     fn bounds_are_met() {
         let (mut least_met, mut most_met) = (0, 0);

@@ -11,8 +11,8 @@ pub const STOPS: [u64; 5] = [16, 50, 64, 100, 256];
 pub const SIZES: [u32; 4] = [2, 4, 6, 8];
 
 /// Among n consecutive indexes from any start, each cell of a shape of size m
-/// holds at least the first number of visits and at most the second, if the
-/// shape's pair passes a level of m or more. These are the formulas of 02, for n
+/// holds at least the first number of visits and at most the second, for every
+/// pair that passes a level of m or more. These are the formulas of 02, for n
 /// from 1 to 2^32 and m up to 32. They do not use that no index follows the last
 /// one, and so are wider than need be where n leaves few starts.
 pub fn count_bounds(n: u64, m: u32) -> (u64, u64) {

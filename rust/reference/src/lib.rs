@@ -5,8 +5,9 @@
 //! All of it, the programs included, is written from documents 01, 02, 003 and
 //! 004 alone (README.md of the repository says what they are; where 02 leaves a
 //! reading open, docs/DECISIONS.md has ours) and not from the Rattle code, so
-//! that an agreement of the two says something. Only `region_file::Stopped` is
-//! not in them: it follows docs/REFUSALS.md.
+//! that an agreement of the two says something. Only two things are not in them:
+//! `region_file::Stopped` follows docs/REFUSALS.md, and
+//! `counts::count_bounds_from` docs/DECISIONS.md.
 
 #![forbid(unsafe_code)]
 
