@@ -8,7 +8,7 @@ use Prim.Native.Nat.{ℕ, _+_, _*_, _/_, _%_, _^_, _≤_, _<_}
 use native.Mathlib.Omega.{arith}
 use Rattle.ranges.specs.Range.{range}
 use Rattle.ranges.specs.Count.{indicator, count}
-use Rattle.ranges.specs.Bounds.{ceiling, CountBounds}
+use Rattle.ranges.specs.Bounds.{ceiling, OneInEach, CountBounds}
 use Rattle.ranges.proofs.Order.{lt-or-ge}
 use Rattle.ranges.proofs.Count.{count-add}
 use Rattle.ranges.proofs.Bounds.{count-bounds}
@@ -27,8 +27,7 @@ use Rattle.net.proofs.Theorem.{theorems}
 
 -- ---- any test that one number of each block of 16 passes, and no number together with the 49th after it
 
-module _ (test : ℕ → Bool) (each : (k : ℕ) → count test (range (k * 16) 16) ≡ 1)
-    (apart : (i : ℕ) → test i ≡ true → test (i + 49) ≡ true → ⊥) where
+module _ (test : ℕ → Bool) (each : OneInEach test 16) (apart : (i : ℕ) → test i ≡ true → test (i + 49) ≡ true → ⊥) where
   bounds : (s n : ℕ) → 1 ≤ n → CountBounds s n 16 (count test (range s n))
   bounds = count-bounds test 16 each
 
@@ -62,10 +61,7 @@ module _ (test : ℕ → Bool) (each : (k : ℕ) → count test (range (k * 16) 
             not-both s (test s) (test (s + 49)) refl refl,
           )
 
--- ---- the standard matrices: the indexes of one of 4 columns are all odd or all even
-
-laws : StandardLaws 2 32 32
-laws = theorems .standard-laws one-lt-two 32 32 (omega arith)
+-- ---- the standard matrices, with a column for each of n digits of an index: the indexes of one of 4 columns are all odd or all even
 
 parity : (i j : ℕ) → reversed 2 32 i / 2 ^ 30 ≡ reversed 2 32 j / 2 ^ 30 → i % 2 ≡ j % 2
 parity i j e =
@@ -73,9 +69,12 @@ parity i j e =
     let q = digit-reversed one-lt-two 32 j 31 (omega arith) in
     omega arith
 
-module _ (F : Scrambling) (lawful : Lawful 2 32 F) where
+module _ (n : ℕ) (long : 32 ≤ n) (F : Scrambling) (lawful : Lawful 2 32 F) where
   abbrev S : Sequence
-  S = digital (standard 2 32 32) F
+  S = digital (standard 2 32 n) F
+
+  laws : StandardLaws 2 32 n
+  laws = theorems .standard-laws one-lt-two 32 n long
 
   one-parity : (i j : ℕ) → column S 2 i ≡ column S 2 j → i % 2 ≡ j % 2
   one-parity i j e =
@@ -85,9 +84,9 @@ module _ (F : Scrambling) (lawful : Lawful 2 32 F) where
 
   pub never-five : (c r start : ℕ) → c < 2 ^ 2 → r < 2 ^ 2 → hits S 4 2 c r (visits S start 50) ≤ 4
   never-five c r start hc hr =
-      subst (λ (n : ℕ). n ≤ 4) (sym (hits-lies S 4 2 c r start 50)) (at-most-four (lies S 4 2 c r) each apart start)
+      subst (λ (many : ℕ). many ≤ 4) (sym (hits-lies S 4 2 c r start 50)) (at-most-four (lies S 4 2 c r) each apart start)
     where
-      each : (k : ℕ) → count (lies S 4 2 c r) (range (k * 16) 16) ≡ 1
+      each : OneInEach (lies S 4 2 c r) 16
       each k =
           sym (hits-lies S 4 2 c r (k * 16) 16)
           ∙ theorems .net (laws .valid) two 32 (omega arith) (laws .passes) .one-hit F lawful 4 2 k c r (omega arith) (omega arith) hc hr

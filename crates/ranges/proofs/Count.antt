@@ -16,15 +16,15 @@ unfolding count
 count-map test f [] = refl
 count-map test f (i ∷ l) = rw (count-map test f l) refl
 
-module _ (test : ℕ → Bool) where
-  count-append : (l r : List ℕ) → count test (l ++ r) ≡ count test l + count test r
-  unfolding count
-  count-append [] r = omega arith
-  count-append (i ∷ l) r = omega (arith, count-append l r)
+count-append : {A : Type 0} (test : A → Bool) (l r : List A) → count test (l ++ r) ≡ count test l + count test r
+unfolding count
+count-append test [] r = omega arith
+count-append test (a ∷ l) r = omega (arith, count-append test l r)
 
+module _ (test : ℕ → Bool) where
   -- a range in two parts
   pub count-add : (s p q : ℕ) → count test (range s (p + q)) ≡ count test (range s p) + count test (range (s + p) q)
-  count-add s p q = ap (count test) (range-add s p q) ∙ count-append (range s p) (range (s + p) q)
+  count-add s p q = ap (count test) (range-add s p q) ∙ count-append test (range s p) (range (s + p) q)
 
   -- none of the range, and just one
   pub count-none : (s n : ℕ) → ((i : ℕ) → s ≤ i → i < s + n → test i ≡ false) → count test (range s n) ≡ 0

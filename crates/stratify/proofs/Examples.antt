@@ -6,6 +6,7 @@ use Rattle.net.specs.Run.{visits, hits}
 use Rattle.net.proofs.Unreached as unreached
 use Rattle.net.proofs.Examples as net
 use Rattle.net.proofs.Examples.{Reached}
+use Rattle.word.specs.Index.{index-bits}
 use Rattle.plan.specs.declared.points.Shift.{Shift}
 use Rattle.plan.specs.Pair.{scrambling, sequence, standard-pair}
 use Rattle.stratify.specs.Answers.{ShiftFits}
@@ -29,7 +30,7 @@ module _ (s : Shift) (fits : ShiftFits s) where
 
   -- a cell of the shape (4, 2) never has 5 of 50 visits, although the bound for every shape of that size is 5
   never-five : (c r start : ℕ) → c < 4 → r < 4 → hits (sequence standard-pair s) 4 2 c r (visits (sequence standard-pair s) start 50) ≤ 4
-  never-five = unreached.never-five (scrambling s) (lawful s fits)
+  never-five = unreached.never-five index-bits (lit≤ tt) (scrambling s) (lawful s fits)
 
 -- the bounds of C-15 are reached, without a shift, in three shapes
 reached : Reached (sequence standard-pair (record { x = 0; y = 0 }))
