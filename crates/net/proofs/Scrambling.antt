@@ -4,14 +4,14 @@ use mathlib.Core.Path.{_≡_, refl, sym, ap, ap₂, _∙_}
 use mathlib.Core.Logic.{_↔_}
 use Prim.Native.Nat.{ℕ, zero, suc, _+_, _-_, _*_, _/_, _%_, _^_, _≤_, _<_}
 use native.Mathlib.Nat.{div-one, mod-lt, div-add-mod', div-div-eq-div-mul, div-eq-of-lt, pow-zero, pow-suc, mul-div-cancel}
-use native.Mathlib.Nat.{add-zero}
+use native.Mathlib.Nat.{add-zero, mod-one, mul-one}
 use native.Mathlib.Omega.{arith}
-use lib.Arith.{digits-div, digits-lt}
+use lib.Arith.{digits-div, digits-mod, digits-lt}
 use Rattle.ranges.specs.Unique.{Only}
 use Rattle.ranges.proofs.Pigeon.{onto}
 use Rattle.digits.specs.Digits.{digit, plus, minus}
 use Rattle.digits.proofs.Remainder.{join-high, join-low, take-back, add-back}
-use Rattle.digits.proofs.Digit.{pow-pos, digit-lt, div-suc, join-lt}
+use Rattle.digits.proofs.Digit.{pow-pos, digit-lt, div-suc, join-lt, mod-pow-suc}
 use Rattle.digits.proofs.Arithmetic.{plus-zero, plus-lt, plus-div, plus-cancel, minus-plus, minus-lt, minus-div}
 use Rattle.net.specs.Generators.{Generators}
 use Rattle.net.specs.Sequence.{Sequence, Fits, top, column, row, VisitIn}
@@ -79,6 +79,55 @@ module _ {b : ℕ} (big : 1 < b) (R : ℕ) where
     top-from-top : (t : ℕ) → t ≤ R → top b R t (f R) ≡ f t
     top-from-top t l = let e : R ≡ R - t + t = omega arith in ap (λ (x : ℕ). f x / b ^ (R - t)) e ∙ from-top (R - t) t
 
+    -- its digit t from the top
+    digit-from-top : (t : ℕ) → t < R → digit b (R - suc t) (f R) ≡ g t
+    digit-from-top t h = ap (λ (x : ℕ). x % b) (top-from-top (suc t) h ∙ more t) ∙ digits-mod (f t) (digits t)
+
+    -- where its digits from d on are those of w, they are the lowest digits of w
+    module _ (w d : ℕ) (same : (t : ℕ) → d ≤ t → g t ≡ digit b (R - suc t) w) where
+      rest : (j : ℕ) → d + j ≤ R → f (d + j) ≡ f d * b ^ j + top b R (d + j) w % b ^ j
+      rest zero h =
+          let e : d + 0 ≡ d = omega arith in
+          let z : top b R (d + 0) w % b ^ 0 ≡ 0 = ap (λ (x : ℕ). top b R (d + 0) w % x) (pow-zero b) ∙ mod-one (top b R (d + 0) w) in
+          let o : f d * b ^ 0 ≡ f d = ap (λ (x : ℕ). f d * x) (pow-zero b) ∙ mul-one (f d) in
+          ap f e ∙ omega arith
+      rest (suc j) h =
+          let e : d + suc j ≡ suc (d + j) = omega arith in
+          let x = top b R (suc (d + j)) w in
+          let up : top b R (d + j) w ≡ x / b = sym (digits-div (top b R (d + j) w) (digit-lt big (R - suc (d + j)) w))
+          ∙ ap (λ (n : ℕ). n / b) (sym (top-suc (d + j) w (omega arith))) in
+          let low : x % b ^ suc j ≡ x / b % b ^ j * b + x % b = mod-pow-suc big j x in
+          let high : f d * b ^ suc j ≡ f d * (b ^ j * b) = ap (λ (n : ℕ). f d * n) (pow-suc b j) in
+          let above : f (d + j) ≡ f d * b ^ j + x / b % b ^ j = rest j (omega arith) ∙ ap (λ (n : ℕ). f d * b ^ j + n % b ^ j) up in
+          let join : (f d * b ^ j + x / b % b ^ j) * b + x % b ≡ f d * b ^ suc j + x % b ^ suc j = omega arith in
+          ap f e ∙ more (d + j) ∙ ap₂ (λ (p q : ℕ). p * b + q) above (same (d + j) (omega arith))
+          ∙ join ∙ ap (λ (n : ℕ). f d * b ^ suc j + top b R n w % b ^ suc j) (sym e)
+
+      rest-from-top : (j : ℕ) → d + j ≡ R → f R ≡ f d * b ^ j + w % b ^ j
+      rest-from-top j h =
+          ap f (sym h) ∙ rest j (omega arith) ∙ ap (λ (n : ℕ). f d * b ^ j + n % b ^ j) (ap (λ (n : ℕ). top b R n w) h ∙ top-all w)
+
+  -- what leads back through nested scrambling is made from the top, too
+  module _ {permute back : ℕ → ℕ → ℕ → ℕ} (leads : LeadsBack b permute back) (v : ℕ) where
+    led : (t p : ℕ) → back t p (digit b (R - suc t) v) < b
+    led t p = leads .digits t p (digit b (R - suc t) v) (digit-lt big (R - suc t) v)
+
+    pub unnested-lt : (t : ℕ) → unnested b R back t v < b ^ t
+    unfolding unnested
+    unnested-lt = from-top-lt (λ t. unnested b R back t v) _ refl (λ t. refl) (λ t. led t _)
+
+    unnested-top : (t : ℕ) → t ≤ R → top b R t (unnested b R back R v) ≡ unnested b R back t v
+    unfolding unnested
+    unnested-top = top-from-top (λ t. unnested b R back t v) _ refl (λ t. refl) (λ t. led t _)
+
+    -- where the digits from d on pass, the lowest digits stay
+    pub unnested-rest : (d : ℕ) → ((t p e : ℕ) → d ≤ t → e < b → back t p e ≡ e) → (j : ℕ) → d + j ≡ R
+        → unnested b R back R v ≡ unnested b R back d v * b ^ j + v % b ^ j
+    unfolding unnested
+    unnested-rest d pass =
+        rest-from-top (λ t. unnested b R back t v) _ refl (λ t. refl) (λ t. led t _) v d
+        (λ t h. pass t _ (digit b (R - suc t) v) h (digit-lt big (R - suc t) v))
+
   module _ {permute : ℕ → ℕ → ℕ → ℕ} (permutes : Permutes b permute) where
     -- digit t from the top after the change
     abbrev changed : ℕ → ℕ → ℕ
@@ -87,13 +136,25 @@ module _ {b : ℕ} (big : 1 < b) (R : ℕ) where
     changed-lt : (t p w : ℕ) → permute t p (digit b (R - suc t) w) < b
     changed-lt t p w = permutes .digits t p (digit b (R - suc t) w) (digit-lt big (R - suc t) w)
 
-    nested-lt : (t w : ℕ) → nested b R permute t w < b ^ t
+    pub nested-lt : (t w : ℕ) → nested b R permute t w < b ^ t
     unfolding nested
     nested-lt t w = from-top-lt (λ t. nested b R permute t w) _ refl (λ t. refl) (λ t. changed-lt t _ w) t
 
     nested-top : (t w : ℕ) → t ≤ R → top b R t (nested b R permute R w) ≡ nested b R permute t w
     unfolding nested
     nested-top t w = top-from-top (λ t. nested b R permute t w) _ refl (λ t. refl) (λ t. changed-lt t _ w) t
+
+    pub nested-digit : (t w : ℕ) → t < R → digit b (R - suc t) (nested b R permute R w) ≡ changed t w
+    unfolding nested
+    nested-digit t w = digit-from-top (λ t. nested b R permute t w) _ refl (λ t. refl) (λ t. changed-lt t _ w) t
+
+    -- where the digits from d on pass, the lowest digits stay
+    pub nested-rest : (d : ℕ) → ((t p e : ℕ) → d ≤ t → e < b → permute t p e ≡ e) → (w j : ℕ) → d + j ≡ R
+        → nested b R permute R w ≡ nested b R permute d w * b ^ j + w % b ^ j
+    unfolding nested
+    nested-rest d pass w =
+        rest-from-top (λ t. nested b R permute t w) _ refl (λ t. refl) (λ t. changed-lt t _ w) w d
+        (λ t h. pass t (top b R t w) (digit b (R - suc t) w) h (digit-lt big (R - suc t) w))
 
     -- digit after digit from the top: the prefixes before and after are equal together
     agree : (t v w : ℕ) → t ≤ R → v < b ^ R → w < b ^ R → (top b R t v ≡ top b R t w) ↔ (nested b R permute t v ≡ nested b R permute t w)
@@ -131,17 +192,6 @@ module _ {b : ℕ} (big : 1 < b) (R : ℕ) where
     -- ---- nested scrambling undone: its t highest digits are those of v, for each t
 
     module _ {back : ℕ → ℕ → ℕ → ℕ} (leads : LeadsBack b permute back) (v : ℕ) where
-      led : (t p : ℕ) → back t p (digit b (R - suc t) v) < b
-      led t p = leads .digits t p (digit b (R - suc t) v) (digit-lt big (R - suc t) v)
-
-      unnested-lt : (t : ℕ) → unnested b R back t v < b ^ t
-      unfolding unnested
-      unnested-lt = from-top-lt (λ t. unnested b R back t v) _ refl (λ t. refl) (λ t. led t _)
-
-      unnested-top : (t : ℕ) → t ≤ R → top b R t (unnested b R back R v) ≡ unnested b R back t v
-      unfolding unnested
-      unnested-top = top-from-top (λ t. unnested b R back t v) _ refl (λ t. refl) (λ t. led t _)
-
       returned : (t : ℕ) → t ≤ R → v < b ^ R → nested b R permute t (unnested b R back R v) ≡ top b R t v
       unfolding nested unnested
       returned zero l h = sym (top-none v h)
@@ -149,9 +199,9 @@ module _ {b : ℕ} (big : 1 < b) (R : ℕ) where
           let w = unnested b R back R v in
           let p = unnested b R back t v in
           let d = digit b (R - suc t) v in
-          let above : top b R t w ≡ p = unnested-top t (omega arith) in
+          let above : top b R t w ≡ p = unnested-top leads v t (omega arith) in
           let below : digit b (R - suc t) w ≡ back t p d =
-          join-low (top b R t w) p (digit-lt big (R - suc t) w) (led t p) (sym (top-suc t w l) ∙ unnested-top (suc t) l) in
+          join-low (top b R t w) p (digit-lt big (R - suc t) w) (led leads v t p) (sym (top-suc t w l) ∙ unnested-top leads v (suc t) l) in
           ap₂ (λ (x y : ℕ). x * b + y) (returned t (omega arith) h)
           (ap₂ (permute t) above below ∙ leads .returns t p d (digit-lt big (R - suc t) v))
           ∙ sym (top-suc t v l)
@@ -176,6 +226,20 @@ module _ {b : ℕ} (big : 1 < b) (R : ℕ) where
     returns = λ t p d h. take-back b d (add t p) h;
   }
 
+  -- ---- one scrambling after another undone, and what undoes a lawful scrambling from one side does so from both
+
+  composed-undone : {f g f′ g′ : ℕ → ℕ} → RightInverse b R f f′ → RightInverse b R g g′ → RightInverse b R (λ w. g (f w)) (λ w. f′ (g′ w))
+  composed-undone {g = g} {g′ = g′} u v = record {
+    fits = λ w h. u .fits (g′ w) (v .fits w h);
+    back = λ w h. ap g (u .back (g′ w) (v .fits w h)) ∙ v .back w h;
+  }
+
+  left-inverse : {f g : ℕ → ℕ} → PrefixBijection b R f → RightInverse b R f g → (w : ℕ) → w < b ^ R → g (f w) ≡ w
+  left-inverse {f} {g} lawful undone w h =
+      let image = lawful .fits w h in
+      sym (top-all (g (f w)))
+      ∙ lawful .prefix-iff R (g (f w)) w (omega arith) (undone .fits (f w) image) h .1 (ap (top b R R) (undone .back (f w) image)) ∙ top-all w
+
   -- ---- each prefix is reached
 
   -- number y of the t highest digits, with zeros below
@@ -185,10 +249,13 @@ module _ {b : ℕ} (big : 1 < b) (R : ℕ) where
   top-lift : (t y : ℕ) → top b R t (lift t y) ≡ y
   top-lift t y = mul-div-cancel y (pow-pos big (R - t))
 
-  lift-lt : (t y : ℕ) → t ≤ R → y < b ^ t → lift t y < b ^ R
+  pub lift-lt : (t y : ℕ) → t ≤ R → y < b ^ t → lift t y < b ^ R
   lift-lt t y l h =
       let e : t + (R - t) ≡ R = omega arith in
       rw (add-zero, e) at (join-lt big t (R - t) y 0 h (pow-pos big (R - t)))
+
+  pub before-lt : {f g : ℕ → ℕ} → RightInverse b R f g → (t c : ℕ) → t ≤ R → c < b ^ t → prefix-before b R g t c < b ^ t
+  before-lt {g = g} u t c l h = top-lt big R t (g (lift t c)) l (u .fits (lift t c) (lift-lt t c l h))
 
   pub reached : (f : ℕ → ℕ) → PrefixBijection b R f → (t c : ℕ) → t ≤ R → c < b ^ t → (w : ℕ) × (w < b ^ R) × (top b R t (f w) ≡ c)
   reached f F t c l h =
@@ -204,6 +271,7 @@ module _ {b : ℕ} (big : 1 < b) (R : ℕ) where
     unchanged = unchanged-lawful;
     shift = shift-lawful;
     nesting = λ permute permutes. nesting permutes;
+    nested-digits = λ permute permutes. nested-digit permutes;
     additions = adding-permutes;
     composed = composed;
     onto = reached;
@@ -215,6 +283,8 @@ module _ {b : ℕ} (big : 1 < b) (R : ℕ) where
     before-shift = λ s t c. minus-div big (R - t) (lift t c) s ∙ ap (λ (x : ℕ). minus b x (top b R t s)) (top-lift t c);
     nesting = λ permute back permutes leads. nesting-undone permutes leads;
     additions = taking-leads-back;
+    composed = λ f g f′ g′. composed-undone;
+    both-sides = λ f g. left-inverse;
   }
 
 -- ---- a scrambling moves whole intervals

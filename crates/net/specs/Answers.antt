@@ -2,11 +2,11 @@
 use mathlib.Core.Path.{_≡_}
 use mathlib.Core.Logic.{_≢_, _↔_}
 use mathlib.Core.List.{List}
-use Prim.Native.Nat.{ℕ, _^_, _≤_, _<_}
+use Prim.Native.Nat.{ℕ, _-_, _^_, _≤_, _<_}
 use Rattle.ranges.specs.Unique.{Only}
 use Rattle.net.specs.Generators.{Generators}
 use Rattle.net.specs.Sequence.{VisitIn, Finds, Crowded, Least}
-use Rattle.net.specs.Scrambling.{Scrambling, plain, digital, shifted}
+use Rattle.net.specs.Scrambling.{Scrambling, plain, digital, Lawful, RightInverse, prefix-before, shifted}
 use Rattle.net.specs.Shape.{determinant, Passes}
 use Rattle.net.specs.Check.{check, passed, first-bad, FirstCrowded, FirstZero}
 use Rattle.net.specs.Query.{locate, found, bad-shape}
@@ -27,12 +27,16 @@ pub record LocateDecides (G : Generators) (F : Scrambling) (m a k c r : ℕ) : T
   pub found-iff : (i : ℕ) → (locate G F m a k c r ≡ found i) ↔ ((determinant G m a ≢ 0) × Only (VisitIn (digital G F) m a k c r) i)
   pub bad-shape-iff : (j : ℕ) → (locate G F m a k c r ≡ bad-shape j) ↔ ((determinant G m a ≡ 0) × Least (plain G) m a j)
 
--- a basis that answers every query of the shape
+-- a basis that answers every query of the shape; under a lawful scrambling F that B undoes it is asked for the plain interval to which B leads back
 pub record Solved (G : Generators) (m a : ℕ) (fs : List BasisEntry) : Type 0 where
   pub nonzero : determinant G m a ≢ 0
   pub answers-shifted : (s t : ℕ) → s < G .b ^ G .R → t < G .b ^ G .R
       → (k : ℕ) → Finds (shifted G s t) m a k (basis-index G (shifted G s t) fs m a k)
   pub answers-plain : (k : ℕ) → Finds (plain G) m a k (basis-index G (plain G) fs m a k)
+  pub answers-scrambled : (F B : Scrambling) → Lawful (G .b) (G .R) F
+      → RightInverse (G .b) (G .R) (F .x) (B .x) → RightInverse (G .b) (G .R) (F .y) (B .y) → (k : ℕ)
+      → Finds (digital G F) m a k (λ c r. basis-index G (plain G) fs m a k
+      (prefix-before (G .b) (G .R) (B .x) a c) (prefix-before (G .b) (G .R) (B .y) (m - a) r))
 
 -- the shape is bad, and j is 01's
 pub record Unsolved (G : Generators) (m a j : ℕ) : Type 0 where
