@@ -7,6 +7,7 @@ pub mod Range
 pub mod Count
 pub mod Bounds
 pub mod Filled
+pub mod Mapped
 pub mod Written
 pub mod Skip
 pub mod Pigeon

@@ -25,6 +25,8 @@ number variant.MissingRecord = 13
 number variant.ChainReturns = 14
 number variant.VisitCount = 15
 number variant.Field = 16
+number variant.FlipBytes = 17
+number variant.FlipBit = 18
 
 -- what a refusal gives besides its number: 3 the shape (m, a) and j
 abbrev pub values : Refusal → List ℕ
@@ -44,6 +46,8 @@ values variant.MissingRecord = []
 values variant.ChainReturns = []
 values variant.VisitCount = []
 values variant.Field = []
+values variant.FlipBytes = []
+values variant.FlipBit = []
 
 -- the outcome of a refused call
 abbrev pub of-refusal : {A : Type 0} → Refusal → Outcome A

@@ -36,6 +36,10 @@ pub enum Refusal {
     VisitCount,
     // 16: the reader's field is wider or taller than a region.
     Field,
+    // 17: the flips of an axis are not 32 bytes.
+    FlipBytes,
+    // 18: flip bit 255 of an axis is set, which belongs to no bit of a coordinate.
+    FlipBit,
 }
 
 impl Refusal {
@@ -60,6 +64,8 @@ impl Refusal {
             Refusal::ChainReturns => 14,
             Refusal::VisitCount => 15,
             Refusal::Field => 16,
+            Refusal::FlipBytes => 17,
+            Refusal::FlipBit => 18,
         }
     }
 }

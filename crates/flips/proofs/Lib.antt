@@ -1,0 +1,6 @@
+pub mod Flips
+pub mod None
+pub mod Turn
+pub mod Scrambled
+pub mod Loading
+pub mod Theorem

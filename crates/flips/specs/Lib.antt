@@ -1,0 +1,4 @@
+pub mod Flips
+pub mod Scramble
+pub mod Load
+pub mod Theorem
