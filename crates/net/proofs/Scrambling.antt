@@ -49,13 +49,13 @@ module _ {b : ℕ} (big : 1 < b) (R : ℕ) where
   -- ---- nested scrambling
 
   -- none of the digits, all of them, and one more from the top
-  top-none : (w : ℕ) → w < b ^ R → top b R 0 w ≡ 0
+  pub top-none : (w : ℕ) → w < b ^ R → top b R 0 w ≡ 0
   top-none w h = let e : R - 0 ≡ R = omega arith in ap (λ (k : ℕ). w / b ^ k) e ∙ div-eq-of-lt h
 
   top-all : (w : ℕ) → top b R R w ≡ w
   top-all w = let e : R - R ≡ 0 = omega arith in ap (λ (k : ℕ). w / b ^ k) e ∙ ap (λ (x : ℕ). w / x) (pow-zero b) ∙ div-one w
 
-  top-suc : (t w : ℕ) → suc t ≤ R → top b R (suc t) w ≡ top b R t w * b + digit b (R - suc t) w
+  pub top-suc : (t w : ℕ) → suc t ≤ R → top b R (suc t) w ≡ top b R t w * b + digit b (R - suc t) w
   top-suc t w l =
       let e : R - t ≡ suc (R - suc t) = omega arith in
       sym (div-add-mod' (top b R (suc t) w) b)

@@ -16,8 +16,9 @@ use Rattle.ranges.proofs.Walk.{visits-given-is, list-within}
 use Rattle.net.specs.Sequence.{Sequence}
 use Rattle.net.specs.Run.{Visit, visit, visits}
 use Rattle.refusal.specs.Outcome.{accepted, first}
-use Rattle.refusal.proofs.First.{first-none, first-accepted}
+use Rattle.refusal.proofs.First.{first-none, first-accepted, all-pass}
 use Rattle.word.specs.Index.{index-count, last-index}
+use Rattle.flips.specs.declared.sets.Flips.{Flips}
 use Rattle.plan.specs.Fill.{fill-outcome, filled}
 use Rattle.plan.specs.Walk.{open-outcome}
 use Rattle.plan.specs.Lists.{paired, held, visits-walked}
@@ -30,23 +31,23 @@ unfolding paired range
 paired-each S start zero = refl
 paired-each S start (suc n) = ap (λ (l : List Visit). visit S start ∷ l) (paired-each S (suc start) n)
 
-pub filled-visits : (n : ℕ) (S : Sequence) (start : ℕ) (xs ys : List ℕ) → fill-outcome n start xs ys ≡ accepted tt
-    → held start (filled n S start xs ys) ≡ visits S start (length xs)
-filled-visits n S start xs ys e =
-    let (passed, after) = first-accepted (accepted tt) 8 _ (not (eqb (length xs) (length ys))) e in
+pub filled-visits : (n : ℕ) (f : Flips) (S : Sequence) (start : ℕ) (xs ys : List ℕ) → fill-outcome n f start xs ys ≡ accepted tt
+    → held start (filled n f S start xs ys) ≡ visits S start (length xs)
+filled-visits n f S start xs ys e =
+    let passed = all-pass (accepted tt) _ e .0 .1 .1 .0 in
     let equal = eqb-true (length xs) (length ys) (not-false (eqb (length xs) (length ys)) passed) in
-    ap (held start) (written n start xs ys S e)
+    ap (held start) (written n f start xs ys S e)
     ∙ ap (λ (l : ℕ). paired start (map (S .x) (range start (length xs))) (map (S .y) (range start l))) (sym equal)
     ∙ paired-each S start (length xs)
 
 -- of what a fill from index `first` on writes, leave out start - first visits and take `count`: these are the visits from `start` on
-pub filled-part : (n : ℕ) (S : Sequence) (start count first : ℕ) (xs ys : List ℕ) → fill-outcome n first xs ys ≡ accepted tt
+pub filled-part : (n : ℕ) (f : Flips) (S : Sequence) (start count first : ℕ) (xs ys : List ℕ) → fill-outcome n f first xs ys ≡ accepted tt
     → first ≤ start → start + count ≤ first + length xs
-    → take count (drop (start - first) (held first (filled n S first xs ys))) ≡ visits S start count
-filled-part n S start count first xs ys e from long =
+    → take count (drop (start - first) (held first (filled n f S first xs ys))) ≡ visits S start count
+filled-part n f S start count first xs ys e from long =
     let at : first + (start - first) ≡ start = omega arith in
     let all : min count (length xs - (start - first)) ≡ count = omega arith in
-    ap (λ (l : List Visit). take count (drop (start - first) l)) (filled-visits n S first xs ys e)
+    ap (λ (l : List Visit). take count (drop (start - first) l)) (filled-visits n f S first xs ys e)
     ∙ ap (take count) (drop-each (visit S) first (length xs) (start - first))
     ∙ take-each (visit S) (first + (start - first)) (length xs - (start - first)) count ∙ ap₂ (visits S) at all
 

@@ -1,5 +1,6 @@
 pub mod Range
 pub mod Pair
+pub mod Calls
 pub mod Fill
 pub mod Walk
 pub mod Lists

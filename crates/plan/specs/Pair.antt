@@ -6,24 +6,34 @@ use lib.Dec.{eqb, ltb}
 use lib.ListN.{length, take, drop, replicate}
 use Rattle.net.specs.Generators.{Generators}
 use Rattle.net.specs.Sequence.{Sequence}
-use Rattle.net.specs.Scrambling.{Scrambling, digital, shift}
+use Rattle.net.specs.Scrambling.{Scrambling, digital}
 use Rattle.refusal.specs.Outcome.{Outcome, accepted, Test, first, granted}
 use Rattle.word.specs.Index.{index-bits}
 use Rattle.word.specs.Matrices.{pair, standard-matrices}
 use Rattle.plan.specs.declared.pair.Plan.{Plan}
+use Rattle.flips.specs.Scramble.{scramble-word}
+use Rattle.flips.specs.Load.{flips-of, no-flips}
 use Rattle.plan.specs.declared.points.Shift.{Shift}
+use Rattle.plan.specs.declared.points.Scramble.{Scramble}
 use Rattle.plan.specs.declared.points.Point.{Point}
 
 -- the generator matrices of a plan
 abbrev pub generators : Plan → Generators
 generators P = pair (P .x) (P .y)
 
--- what follows the product: the digital shift (01: scramble) of each axis
-abbrev pub scrambling : Shift → Scrambling
-scrambling s = shift 2 (s .x) (s .y)
+-- what follows the product: the flips of each axis (C-16), and then its digital shift (01: scramble)
+abbrev pub scrambling : Scramble → Scrambling
+scrambling s = record { x = scramble-word (s .flips .x) (s .shift .x); y = scramble-word (s .flips .y) (s .shift .y) }
 
--- the points of a plan under a shift
-abbrev pub sequence : Plan → Shift → Sequence
+-- a shift with the bytes of flips, and one without flips
+abbrev pub scramble-of : Shift → List ℕ → List ℕ → Scramble
+scramble-of s flips-x flips-y = record { shift = s; flips = flips-of flips-x flips-y }
+
+abbrev pub only-shift : Shift → Scramble
+only-shift s = record { shift = s; flips = no-flips }
+
+-- the points of a plan under flips and a shift
+abbrev pub sequence : Plan → Scramble → Sequence
 sequence P s = digital (generators P) (scrambling s)
 
 -- the code's point as two numbers

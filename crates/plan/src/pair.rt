@@ -1,6 +1,6 @@
-// Generator matrices (01: the pair) by value, from words or the standard ones, and the point of an index.
+// Generator matrices (01: the pair) by value, from words or the standard ones, and the point of an index under a scramble by value.
 use crate::Point;
-use crate::Shift;
+use crate::Scramble;
 use refusal::Judgement;
 use refusal::Refusal;
 use word::COLUMNS;
@@ -72,22 +72,22 @@ impl Plan {
     }
 
     // The point of an index: in each axis the product of the matrix with the index, and what follows it.
-    pub fn point(self, shift: Shift, index: Index) -> Point
-        ensures { λ r. ⌜ of-point r ≡ point (sequence self shift) index ⌝ }
+    pub fn scrambled_point(self, scramble: Scramble, index: Index) -> Point
+        ensures { λ r. ⌜ of-point r ≡ point (sequence self scramble) index ⌝ }
     {
         let x = self.x;
         let y = self.y;
-        shift.scramble(Point {
+        scramble.scramble(Point {
             x: word::product(x, index),
             y: word::product(y, index),
         })
     }
 
     // The same of the standard matrices, by the fast way.
-    pub fn standard_point(shift: Shift, index: Index) -> Point
-        ensures { λ r. ⌜ of-point r ≡ point (sequence standard-pair shift) index ⌝ }
+    pub fn scrambled_standard_point(scramble: Scramble, index: Index) -> Point
+        ensures { λ r. ⌜ of-point r ≡ point (sequence standard-pair scramble) index ⌝ }
     {
-        shift.scramble(Point {
+        scramble.scramble(Point {
             x: word::standard_x(index),
             y: word::standard_y(index),
         })

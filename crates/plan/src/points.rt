@@ -1,7 +1,8 @@
-// Points, and what follows the products: the digital shift of each axis.
+// Points, and what follows the products: the flips of each axis, and then its digital shift.
+use flips::Flips;
 ghost use mathlib.Core.Path.{_≡_};
 ghost use Rattle.net.specs.Scrambling.{scrambled-point};
-ghost use Rattle.plan.specs.Pair.{scrambling, of-point};
+ghost use Rattle.plan.specs.Pair.{scrambling, only-shift, of-point};
 
 // The two coordinates of a visit.
 pub struct Point {
@@ -15,14 +16,32 @@ pub struct Shift {
     pub y: u32,
 }
 
-impl Shift {
-    // The point of two products: the shift added to each.
+// All that follows the products: flips, and then a shift.
+pub struct Scramble {
+    pub shift: Shift,
+    pub flips: Flips,
+}
+
+impl Scramble {
+    // A shift without flips, as the records of a region file have it.
+    pub fn of_shift(shift: Shift) -> Scramble
+        ensures { λ r. ⌜ r ≡ only-shift shift ⌝ }
+    {
+        let flips = Flips::none();
+        Scramble { shift, flips }
+    }
+
+    // The point of two products.
     pub fn scramble(self, products: Point) -> Point
         ensures { λ r. ⌜ of-point r ≡ scrambled-point (scrambling self) (of-point products) ⌝ }
     {
+        let flips = self.flips;
+        let flips_x = flips.x;
+        let flips_y = flips.y;
+        let shift = self.shift;
         Point {
-            x: products.x ^ self.x,
-            y: products.y ^ self.y,
+            x: flips::scramble(flips_x, shift.x, products.x),
+            y: flips::scramble(flips_y, shift.y, products.y),
         }
     }
 }

@@ -1,15 +1,17 @@
 // A walk over visits, stepped by value: a step hands back the visit or the end, together with the walk after it.
 use crate::Plan;
+use crate::Scramble;
 use crate::Shift;
+use flips::Flips;
+use refusal::Judgement;
 use refusal::Refusal;
 use word::Index;
 use word::LAST_INDEX;
 ghost use mathlib.Core.Path.{_≡_};
-ghost use Rattle.ranges.specs.Walk.{step};
-ghost use Rattle.net.specs.Run.{visit};
-ghost use Rattle.word.specs.Index.{index-count, last-index};
-ghost use Rattle.plan.specs.Pair.{sequence};
-ghost use Rattle.plan.specs.Walk.{open-outcome, of-opened, of-walk, of-stepped};
+ghost use Rattle.refusal.specs.Outcome.{part-left, through};
+ghost use Rattle.word.specs.Index.{index-count};
+ghost use Rattle.plan.specs.Pair.{scramble-of};
+ghost use Rattle.plan.specs.Walk.{open-outcome, step-outcome, of-opened, of-walk, of-step};
 
 // The next index, and how many visits are left (01's word; the field: a cursor).
 pub struct Walk {
@@ -30,10 +32,11 @@ pub struct Visit {
     pub y: u32,
 }
 
-// What a step gives: the next visit, or the end.
+// What a step gives: the next visit, or the end, or why neither.
 pub enum Step {
     Visited(Visit),
     Ended,
+    Refused(Refusal),
 }
 
 // A step together with the walk after it.
@@ -56,10 +59,28 @@ impl Walk {
         })
     }
 
-    // The next visit and the walk after it, for any walk, also one made by hand.
-    pub fn step(self, plan: Plan, shift: Shift) -> Stepped
-        ensures { λ r. ⌜ of-stepped r ≡ step (visit (sequence plan shift)) last-index (of-walk self) ⌝ }
+    // The next visit and the walk after it, for any walk, also one made by hand. A refused step hands the walk back as it was, and bad flips
+    // are refused also where the walk has ended.
+    pub fn step(self, plan: Plan, shift: Shift, flips_x: &[u8], flips_y: &[u8]) -> Stepped
+        ensures step { λ r. ⌜
+            of-step (r .step)
+            ≡ through (λ t. t .answer) (step-outcome plan (scramble-of shift (now («flips_x» .entry)) (now («flips_y» .entry))) (of-walk self)) ⌝ }
+        ensures walk { λ r. ⌜
+            of-walk (r .walk)
+            ≡ part-left (step-outcome plan (scramble-of shift (now («flips_x» .entry)) (now («flips_y» .entry))) (of-walk self)) (λ t. t .walk)
+            (of-walk self) ⌝ }
     {
+        let loaded = Flips::load(flips_x, flips_y);
+        let judged = loaded.answer;
+        match judged {
+            Judgement::Refused(why) => {
+                return Stepped {
+                    step: Step::Refused(why),
+                    walk: self,
+                };
+            }
+            Judgement::Accepted => {}
+        }
         let next = self.next;
         let left = self.left;
         if left == 0 {
@@ -68,7 +89,8 @@ impl Walk {
                 walk: self,
             };
         }
-        let at = plan.point(shift, next);
+        let flips = loaded.flips;
+        let at = plan.scrambled_point(Scramble { shift, flips }, next);
         let visited = Step::Visited(Visit {
             index: next,
             x: at.x,

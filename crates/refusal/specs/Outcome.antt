@@ -32,6 +32,11 @@ abbrev pub part-left : {A B : Type 0} → Outcome A → (A → B) → B → B
 part-left (accepted a) part old = part a
 part-left (refused n vs) part old = old
 
+-- an accepted value turned into another; a refusal stands
+abbrev pub through : {A B : Type 0} → (A → B) → Outcome A → Outcome B
+through f (accepted a) = accepted (f a)
+through f (refused n vs) = refused n vs
+
 -- what comes after a call that is accepted; a refusal stands
 unfoldable pub then : {A B : Type 0} → Outcome A → Outcome B → Outcome B
 then (accepted a) after = after

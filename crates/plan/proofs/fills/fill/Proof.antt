@@ -1,43 +1,93 @@
--- `fill`: the tests in 01's order, and then the products of each axis.
+-- `fill`: the tests in their order, and then each axis.
 use mathlib.Core.Path.{_≡_, sym, ap, _∙_}
 use mathlib.Core.Bool.{false}
+use mathlib.Core.List.{List, map}
+use Prim.Native.Nat.{ℕ, _+_, _≤_}
+use native.Mathlib.Omega.{arith}
 use borrow.Author.Needs.{needs}
+use borrow.Author.Tests.{ltb-false}
 use lib.ListN.{length}
+use Rattle.ranges.specs.Range.{range}
+use Rattle.net.specs.Sequence.{Sequence}
+use Rattle.net.specs.Scrambling.{coordinate}
 use Rattle.word.specs.Index.{index-count, goes-past}
-use Rattle.products.proofs.Within.{filled-within}
-use Rattle.plan.specs.Pair.{sequence}
+use Rattle.flips.specs.declared.sets.Flips.{Flips}
+use Rattle.flips.specs.Scramble.{scramble-word}
+use Rattle.flips.specs.Load.{flips-of}
+use Rattle.flips.proofs.Judging.{flips-are}
+use Rattle.plan.specs.Pair.{sequence, scramble-of}
 use Rattle.plan.specs.Fill.{Buffers}
-use Rattle.plan.proofs.Filling.{refused-lengths, refused-range, accepts, kept, written}
+use Rattle.plan.proofs.Filling.{refused-flips, refused-lengths, refused-range, accepts, written, leaves}
 use Rattle.plan.proofs.fills.fill.Statement.{statement}
 use Rattle.plan.proofs.fills.fill.Tie as tie
 
+-- the bytes lent for flips, and the points under them
+abbrev lent : tie.Start → Flips
+lent s = flips-of (s .args .flips-x .now) (s .args .flips-y .now)
+
+abbrev S : tie.Start → Sequence
+S s = let a = s .args in sequence (a .plan) (scramble-of (a .shift) (a .flips-x .now) (a .flips-y .now))
+
+-- where the flips have been accepted, they are those that were loaded
+abbrev start : tie.After-enum-told → tie.Start
+start d = d .before .before .before .before .before .before .before
+
+are : (d : tie.After-enum-told) → d .before .before .load .result .flips ≡ lent (start d)
+are d = flips-are (lent (start d)) (d .before .before .load .ensures .0) (d .enum-told .given .1) (d .before .before .load .ensures .1)
+
+-- past all tests
+within : (c : tie.Else2) → let a = start (c .before .before .before) .args in goes-past index-count (a .start) (length (a .xs .now)) ≡ false
+within c = sym (c .before .goes-past .ensures) ∙ c .if2 .left
+
+room : (c : tie.Else2) → let a = start (c .before .before .before) .args in a .start + length (a .xs .now) ≤ index-count
+room c = let a = start (c .before .before .before) .args in ltb-false index-count (a .start + length (a .xs .now)) (within c)
+
+load-requires : tie.Need-load-requires
+load-requires c κs = search needs
+
+enum-known-judged : tie.Need-enum-known-judged
+enum-known-judged c = search needs
+
 returns : tie.Need-returns
 returns c =
-    let a = c .before .before .before .args in
-    let e = refused-lengths index-count (a .start) (a .xs .now) (a .ys .now) (c .if1 .taken) in
-    let k = kept index-count (a .start) (a .xs .now) (a .ys .now) (sequence (a .plan) (a .shift)) e in
-    (sym e, (sym (ap (λ (b : Buffers). b .x) k), sym (ap (λ (b : Buffers). b .y) k)))
+    let s = c .before .before .before .before .before .before .before .before in
+    let a = s .args in
+    leaves index-count (lent s) (a .start) (a .xs .now) (a .ys .now) (S s)
+    (refused-flips index-count (lent s) (a .start) (a .xs .now) (a .ys .now) (c .before .before .before .load .ensures .0) (c .before .judged .given .1))
+
+enum-told : tie.Need-enum-told
+enum-told c = search needs
+
+returns-2 : tie.Need-returns-2
+returns-2 c =
+    let d = c .before in
+    let s = start d in
+    let a = s .args in
+    leaves index-count (lent s) (a .start) (a .xs .now) (a .ys .now) (S s)
+    (refused-lengths index-count (lent s) (a .start) (a .xs .now) (a .ys .now) (d .before .before .load .ensures .0) (d .enum-told .given .1)
+    (c .if1 .taken))
 
 goes-past-requires : tie.Need-goes-past-requires
 goes-past-requires c κs = search needs
 
-returns-2 : tie.Need-returns-2
-returns-2 c =
-    let a = c .before .before .before .before .before .args in
-    let past = sym (c .before .goes-past .ensures) ∙ c .if2 .taken in
-    let e = refused-range index-count (a .start) (a .xs .now) (a .ys .now) (c .before .before .if1 .left) past in
-    let k = kept index-count (a .start) (a .xs .now) (a .ys .now) (sequence (a .plan) (a .shift)) e in
-    (sym e, (sym (ap (λ (b : Buffers). b .x) k), sym (ap (λ (b : Buffers). b .y) k)))
+returns-3 : tie.Need-returns-3
+returns-3 c =
+    let d = c .before .before .before in
+    let s = start d in
+    let a = s .args in
+    leaves index-count (lent s) (a .start) (a .xs .now) (a .ys .now) (S s)
+    (refused-range index-count (lent s) (a .start) (a .xs .now) (a .ys .now) (d .before .before .load .ensures .0) (d .enum-told .given .1)
+    (c .before .before .if1 .left) (sym (c .before .goes-past .ensures) ∙ c .if2 .taken))
 
--- past the second test
-within : (c : tie.Else2) → let a = c .before .before .before .before .before .args in goes-past index-count (a .start) (length (a .xs .now)) ≡ false
-within c = sym (c .before .goes-past .ensures) ∙ c .if2 .left
+fill-axis-requires : tie.Need-fill-axis-requires
+fill-axis-requires c κs = room (c .before .before .before .before .before .before)
 
-fill-requires : tie.Need-fill-requires
-fill-requires c κs = search needs
-
-fill-requires-2 : tie.Need-fill-requires-2
-fill-requires-2 c κs = search needs
+fill-axis-requires-2 : tie.Need-fill-axis-requires-2
+fill-axis-requires-2 c κs =
+    let e = c .before .before .before .before .before .before .before .before .before .before in
+    let equal = e .before .before .if1 .left in
+    let h = room e in
+    omega arith
 
 same-length : tie.Need-same-length
 same-length c = search needs
@@ -45,19 +95,23 @@ same-length c = search needs
 same-length-2 : tie.Need-same-length-2
 same-length-2 c = search needs
 
-returns-3 : tie.Need-returns-3
-returns-3 c =
-    let d = c .before .before .before .before .before .before .before .before .before .before in
-    let a = d .before .before .before .before .before .args in
-    let equal = d .before .before .if1 .left in
-    let e = accepts index-count (a .start) (a .xs .now) (a .ys .now) equal (within d) in
-    let w = written index-count (a .start) (a .xs .now) (a .ys .now) (sequence (a .plan) (a .shift)) e in
-    let room = ap (goes-past index-count (a .start)) (sym equal) ∙ within d in (
-      sym e,
+returns-4 : tie.Need-returns-4
+returns-4 c =
+    let e = c .before .before .before .before .before .before .before .before .before .before .before .before .before in
+    let d = e .before .before .before in
+    let s = start d in
+    let a = s .args in
+    let o = accepts index-count (lent s) (a .start) (a .xs .now) (a .ys .now) (d .before .before .load .ensures .0) (d .enum-told .given .1)
+    (e .before .before .if1 .left) (within e) in
+    let w = written index-count (lent s) (a .start) (a .xs .now) (a .ys .now) (S s) o in (
+      sym o,
       (
-        c .before .before .before .before .before .before .fill .ensures ∙ filled-within _ _ (a .start) (a .xs .now) (within d)
+        c .before .before .before .before .before .before .fill-axis .ensures
+            ∙ ap (λ (g : Flips). map (coordinate 2 (a .plan .x) (scramble-word (g .x) (a .shift .x))) (range (a .start) (length (a .xs .now)))) (are d)
             ∙ sym (ap (λ (b : Buffers). b .x) w),
-        c .before .before .fill2 .ensures ∙ filled-within _ _ (a .start) (a .ys .now) room ∙ sym (ap (λ (b : Buffers). b .y) w),
+        c .before .before .fill-axis2 .ensures
+            ∙ ap (λ (g : Flips). map (coordinate 2 (a .plan .y) (scramble-word (g .y) (a .shift .y))) (range (a .start) (length (a .ys .now)))) (are d)
+            ∙ sym (ap (λ (b : Buffers). b .y) w),
       ),
     )
 
@@ -65,11 +119,15 @@ pub fill-spec : {M : Type 1} → statement M
 fill-spec =
     tie.close
     (tie.spec
+    load-requires
+    enum-known-judged
     returns
-    goes-past-requires
+    enum-told
     returns-2
-    fill-requires
-    fill-requires-2
+    goes-past-requires
+    returns-3
+    fill-axis-requires
+    fill-axis-requires-2
     same-length
     same-length-2
-    returns-3)
+    returns-4)
