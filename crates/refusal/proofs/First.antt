@@ -5,7 +5,7 @@ use mathlib.Core.Bool.{Bool, true, false}
 use mathlib.Core.List.{List, [], _∷_, _++_}
 use Prim.Native.Nat.{ℕ}
 use native.Mathlib.Omega.{arith}
-use Rattle.refusal.specs.Outcome.{Outcome, accepted, refused, Test, first, granted, part-left, then}
+use Rattle.refusal.specs.Outcome.{Outcome, accepted, refused, Test, first, granted, part-left, through, then}
 
 module _ {A : Type 0} (after : Outcome A) where
   pub first-none : first [] after ≡ after
@@ -174,3 +174,25 @@ pub then-same : {A B : Type 0} (o : Outcome A) (a : B) {b : B} → then o (accep
 unfolding then
 then-same (accepted c) a e = sym (accepted-same e)
 then-same (refused n vs) a e = absurd (accepted-refused (sym e))
+
+-- ---- an accepted value turned into another
+
+module _ {A B : Type 0} (f : A → B) where
+  pub through-first : (ts : List Test) (o : Outcome A) → through f (first ts o) ≡ first ts (through f o)
+  unfolding first
+  through-first [] o = refl
+  through-first (t ∷ ts) o = go (t .holds) (through-first ts o)
+    where
+      go : (b : Bool) → through f (first ts o) ≡ first ts (through f o)
+          → through f (elim b [ true ↦ refused (t .number) [] | false ↦ first ts o ])
+          ≡ elim b [ true ↦ refused (t .number) [] | false ↦ first ts (through f o) ]
+      go true more = refl
+      go false more = more
+
+  pub through-refused : (o : Outcome A) {n : ℕ} {vs : List ℕ} → refused n vs ≡ through f o → o ≡ refused n vs
+  through-refused (accepted a) e = absurd (accepted-refused (sym e))
+  through-refused (refused k ws) e = cc
+
+  pub through-accepted : (o : Outcome A) {b : B} → accepted b ≡ through f o → (a : A) × ((o ≡ accepted a) × (b ≡ f a))
+  through-accepted (accepted a) e = (a, (refl, accepted-same e))
+  through-accepted (refused k ws) e = absurd (accepted-refused e)

@@ -10,6 +10,7 @@ pub use numbers::Unit;
 pub use numbers::coordinate;
 pub use numbers::double;
 pub use numbers::single;
+pub use pairs::PointedSingles;
 pub use pairs::Singles;
 pub use pairs::singles_at;
 pub use pairs::singles_of;
