@@ -2,8 +2,11 @@
 use refusal::Judgement;
 use refusal::Refusal;
 ghost use mathlib.Core.Path.{_≡_};
+ghost use mathlib.Core.Logic.{_↔_};
+ghost use mathlib.Core.Bool.{true};
 ghost use lib.ListN.{length};
 ghost use Rattle.refusal.specs.Refusal.{of-judgement, of-refusal};
+ghost use Rattle.flips.specs.Flips.{NoneSet};
 ghost use Rattle.flips.specs.Load.{flips-of, flip-bytes, flips-outcome, no-flips, loaded};
 
 // The number of bytes of an axis's flips.
@@ -38,6 +41,18 @@ impl Flips {
             x: [0; FLIP_BYTES],
             y: [0; FLIP_BYTES],
         }
+    }
+
+    // Whether no bit of either axis is set.
+    pub fn none_set(self) -> bool
+        ensures { λ r. ⌜ (r ≡ true) ↔ (NoneSet (self .x) × NoneSet (self .y)) ⌝ }
+    {
+        let x = self.x;
+        let y = self.y;
+        if crate::none_set(x) {
+            return crate::none_set(y);
+        }
+        false
     }
 
     // The flips that the bytes of two axes hold.

@@ -71,6 +71,10 @@ module _ {G : Generators} {m a : ℕ} (shape : Shape G m a) where
         index-only inverse-apart s t hs ht k c r hc hr (inverse (plain-interval (shifted G s t) m a k c r))
         (λ i h e. ap inverse (sym e) ∙ back i h)
 
+    pub inverse-plain : (k c r : ℕ) → c < b ^ a → r < b ^ (m - a)
+        → Only (VisitIn (plain G) m a k c r) (k * b ^ m + inverse (plain-interval (plain G) m a k c r))
+    inverse-plain k c r hc hr = index-plain inverse-apart k c r hc hr _ (λ i h e. ap inverse (sym e) ∙ back i h)
+
     pub inverse-scrambled : {F B : Scrambling} → Lawful b R F → RightInverse b R (F .x) (B .x) → RightInverse b R (F .y) (B .y)
         → (k c r : ℕ) → c < b ^ a → r < b ^ (m - a)
         → Only (VisitIn (digital G F) m a k c r)

@@ -11,7 +11,7 @@ use Rattle.refusal.specs.Outcome.{Outcome, accepted, Test, first, granted}
 use Rattle.word.specs.Index.{index-bits}
 use Rattle.word.specs.Matrices.{pair, standard-matrices}
 use Rattle.plan.specs.declared.pair.Plan.{Plan}
-use Rattle.flips.specs.Scramble.{scramble-word}
+use Rattle.flips.specs.Scramble.{scramble-word, unscramble-word}
 use Rattle.flips.specs.Load.{flips-of, no-flips}
 use Rattle.plan.specs.declared.points.Shift.{Shift}
 use Rattle.plan.specs.declared.points.Scramble.{Scramble}
@@ -24,6 +24,10 @@ generators P = pair (P .x) (P .y)
 -- what follows the product: the flips of each axis (C-16), and then its digital shift (01: scramble)
 abbrev pub scrambling : Scramble → Scrambling
 scrambling s = record { x = scramble-word (s .flips .x) (s .shift .x); y = scramble-word (s .flips .y) (s .shift .y) }
+
+-- and what undoes it: the shift is taken first, then the flips
+abbrev pub unscrambling : Scramble → Scrambling
+unscrambling s = record { x = unscramble-word (s .flips .x) (s .shift .x); y = unscramble-word (s .flips .y) (s .shift .y) }
 
 -- a shift with the bytes of flips, and one without flips
 abbrev pub scramble-of : Shift → List ℕ → List ℕ → Scramble

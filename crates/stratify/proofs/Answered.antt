@@ -3,34 +3,36 @@ use mathlib.Core.Path.{_≡_, refl, sym, ap, ap₂, _∙_}
 use mathlib.Core.Bool.{false, _||_}
 use mathlib.Core.List.{List, [], _∷_}
 use Prim.Native.Nat.{ℕ, zero, suc, _+_, _-_, _*_, _^_, _≤_, _<_}
-use native.Mathlib.Nat.{lt-of-lt-of-le}
 use native.Mathlib.Omega.{arith}
 use borrow.Author.Tests.{leb-false}
 use lib.Bits.{bitXor}
 use lib.Dec.{leb}
 use lib.ListN.{length, getD, drop, drop-of-length-le}
-use lib.Pow.{pow-pos, pow-mono}
+use lib.Pow.{pow-pos}
 use lib.Seq.{drop-cons, ext-getD}
 use Rattle.ranges.specs.Unique.{Only}
 use Rattle.ranges.proofs.Tests.{neither-holds}
-use Rattle.digits.specs.Digits.{plus, minus}
-use Rattle.digits.proofs.Arithmetic.{plus-assoc, plus-comm, plus-join, plus-split, zero-plus, minus-lt}
-use Rattle.digits.proofs.Two.{one-lt-two, plus-two, minus-two}
+use Rattle.digits.specs.Digits.{plus}
+use Rattle.digits.proofs.Arithmetic.{plus-assoc, plus-comm, plus-split, zero-plus}
+use Rattle.digits.proofs.Two.{one-lt-two, plus-two}
 use Rattle.net.specs.Generators.{product}
-use Rattle.net.specs.Sequence.{Sequence, VisitIn, column, row}
-use Rattle.net.specs.Scrambling.{shifted}
+use Rattle.net.specs.Sequence.{Sequence, VisitIn}
+use Rattle.net.specs.Scrambling.{plain, digital}
 use Rattle.net.specs.Shape.{Shape}
 use Rattle.net.specs.Query.{visit-index}
-use Rattle.net.specs.Elimination.{serial, plain-interval}
-use Rattle.net.proofs.Interval.{row-below, block-lt, serial-lt}
+use Rattle.net.specs.Elimination.{serial, interval, plain-interval}
+use Rattle.net.proofs.Interval.{block-lt}
 use Rattle.net.proofs.Product.{product-plus}
 use Rattle.net.proofs.VisitIndex.{visit-index-only}
-use Rattle.net.proofs.Basis.{inverse-only}
+use Rattle.net.proofs.Basis.{inverse-plain, inverse-scrambled}
 use Rattle.word.specs.Matrices.{pair}
 use Rattle.elimination.specs.Elimination.{ShapeInverse}
-use Rattle.stratify.specs.Answers.{not-a-cell}
+use Rattle.plan.specs.declared.points.Scramble.{Scramble}
+use Rattle.plan.specs.Pair.{scrambling}
+use Rattle.stratify.specs.Answers.{not-a-cell, ShiftFits}
+use Rattle.stratify.specs.Strips.{plain-column, plain-row, plain-number}
 use Rattle.stratify.specs.Overview.{some-outside, others-outside, AllInside, visit-indexes}
-use Rattle.stratify.proofs.Cell.{fits}
+use Rattle.stratify.proofs.LedBack.{lawful, undone-x, undone-y, number-less, row-before}
 
 -- ---- cells outside
 
@@ -93,52 +95,48 @@ module _ (S : Sequence) (m a k : ℕ) where
 
 -- ---- one product a cell
 
--- the cell's own number is a word
-pub own-number-lt : {x y : List ℕ} {m a : ℕ} → Shape (pair x y) m a → (c r : ℕ) → c < 2 ^ a → r < 2 ^ (m - a) → c * 2 ^ (m - a) + r < 2 ^ 32
-unfolding serial
-own-number-lt {m = m} {a = a} shape c r hc hr = lt-of-lt-of-le (serial-lt one-lt-two m a c r (shape .wide) hc hr) (pow-mono (shape .fits))
-
-module _ {x y : List ℕ} {m a : ℕ} (shape : Shape (pair x y) m a) (s t : ℕ) (hs : s < 2 ^ 32) (ht : t < 2 ^ 32) (k : ℕ)
+module _ {x y : List ℕ} {m a : ℕ} (shape : Shape (pair x y) m a) (s : Scramble) (fits : ShiftFits (s .shift)) (k : ℕ)
     (inverse : List ℕ) (back : ShapeInverse (pair x y) m a inverse) where
+  -- the number of the plain cell that answers for a cell
   abbrev number : ℕ → ℕ → ℕ
-  number = plain-interval (shifted (pair x y) s t) m a k
+  number c r = plain-interval (plain (pair x y)) m a k (plain-column s a c) (plain-row s m a r)
 
-  -- the answer is the product with the number of the plain cell
-  only : (c r : ℕ) → c < 2 ^ a → r < 2 ^ (m - a) → Only (VisitIn (shifted (pair x y) s t) m a k c r) (k * 2 ^ m + product 2 inverse (number c r))
-  only = inverse-only shape (product 2 inverse) back s t hs ht k
+  -- the answer is the product with it
+  only : (c r : ℕ) → c < 2 ^ a → r < 2 ^ (m - a)
+      → Only (VisitIn (digital (pair x y) (scrambling s)) m a k c r) (k * 2 ^ m + product 2 inverse (number c r))
+  only = inverse-scrambled shape (product 2 inverse) back (lawful s fits) (undone-x s fits) (undone-y s fits) k
 
   product-below : (c r : ℕ) → c < 2 ^ a → r < 2 ^ (m - a) → product 2 inverse (number c r) < 2 ^ m
   product-below c r hc hr = let below = only c r hc hr .holds .in-block .below in omega arith
 
-  -- the number of the plain cell is the cell's own, and that of column 0 and row 0 added
-  less-is : (c u : ℕ) → plus 2 c (minus 2 0 u) ≡ minus 2 c u
-  less-is c u = ap (plus 2 c) (minus-two 0 u ∙ sym (plus-two 0 u) ∙ zero-plus one-lt-two u) ∙ plus-two c u ∙ sym (minus-two c u)
+  -- the cell of the block's first visit, whose index is 0 in the block
+  abbrev pub first : ℕ
+  first = interval (plain (pair x y)) m a (k * 2 ^ m)
 
-  number-is : (c r : ℕ) → r < 2 ^ (m - a) → plus 2 (number 0 0) (c * 2 ^ (m - a) + r) ≡ number c r
+  first-below : product 2 inverse first < 2 ^ m
   unfolding serial
-  number-is c r hr =
-      let u = column (shifted (pair x y) s t) a (k * 2 ^ m) in
-      let v = row (shifted (pair x y) s t) (m - a) (k * 2 ^ m) in
-      let low : minus 2 0 v < 2 ^ (m - a) = minus-lt one-lt-two (m - a) 0 v (pow-pos (m - a))
-      (row-below one-lt-two (fits shape s t hs ht) m a (shape .wide) (shape .fits) (k * 2 ^ m)) in
-      plus-comm one-lt-two (number 0 0) (c * 2 ^ (m - a) + r)
-      ∙ plus-join one-lt-two (m - a) c (minus 2 0 u) r (minus 2 0 v) hr low
-      ∙ ap₂ (λ (p q : ℕ). p * 2 ^ (m - a) + q) (less-is c u) (less-is r v)
+  first-below =
+      let none : 0 * 2 ^ (m - a) + 0 ≡ 0 = omega arith in
+      let is : plain-interval (plain (pair x y)) m a k 0 0 ≡ first = sym (number-less shape k 0 0 (pow-pos (m - a)))
+      ∙ ap (λ (n : ℕ). bitXor n first) none ∙ sym (plus-two 0 first) ∙ zero-plus one-lt-two first in
+      let below = inverse-plain shape (product 2 inverse) back k 0 0 (pow-pos a) (pow-pos (m - a)) .holds .in-block .below in
+      omega (arith, ap (product 2 inverse) is)
 
-  -- what block and shift add for all cells
-  pub base-lt : k < 2 ^ (32 - m) → k * 2 ^ m + product 2 inverse (number 0 0) < 2 ^ 32
-  base-lt hk = block-lt one-lt-two 32 m k (product 2 inverse (number 0 0)) (shape .fits) hk (product-below 0 0 (pow-pos a) (pow-pos (m - a)))
+  -- what the block adds for all cells
+  pub base-lt : k < 2 ^ (32 - m) → k * 2 ^ m + product 2 inverse first < 2 ^ 32
+  base-lt hk = block-lt one-lt-two 32 m k (product 2 inverse first) (shape .fits) hk first-below
 
-  pub answered : (c r base : ℕ) → c < 2 ^ a → r < 2 ^ (m - a) → base ≡ k * 2 ^ m + product 2 inverse (number 0 0)
-      → bitXor base (product 2 inverse (c * 2 ^ (m - a) + r)) ≡ visit-index (shifted (pair x y) s t) m a k c r
+  pub answered : (c r base : ℕ) → c < 2 ^ a → r < 2 ^ (m - a) → base ≡ k * 2 ^ m + product 2 inverse first
+      → bitXor base (product 2 inverse (plain-number s m a c r)) ≡ visit-index (digital (pair x y) (scrambling s)) m a k c r
   answered c r base hc hr e =
-      let p = product 2 inverse (c * 2 ^ (m - a) + r) in
-      let q = product 2 inverse (number 0 0) in
+      let p = product 2 inverse (plain-number s m a c r) in
+      let q = product 2 inverse first in
       let n = product 2 inverse (number c r) in
-      let first = k * 2 ^ m in
+      let begins = k * 2 ^ m in
       sym (plus-two base p)
-      ∙ ap (λ (z : ℕ). plus 2 z p) (e ∙ sym (plus-split one-lt-two m k q (product-below 0 0 (pow-pos a) (pow-pos (m - a)))))
-      ∙ plus-assoc one-lt-two first q p
-      ∙ ap (plus 2 first) (sym (product-plus one-lt-two inverse (number 0 0) (c * 2 ^ (m - a) + r)) ∙ ap (product 2 inverse) (number-is c r hr))
+      ∙ ap (λ (z : ℕ). plus 2 z p) (e ∙ sym (plus-split one-lt-two m k q first-below))
+      ∙ plus-assoc one-lt-two begins q p
+      ∙ ap (plus 2 begins) (plus-comm one-lt-two q p ∙ sym (product-plus one-lt-two inverse (plain-number s m a c r) first)
+      ∙ ap (product 2 inverse) (plus-two (plain-number s m a c r) first ∙ number-less shape k _ _ (row-before shape s fits r hr)))
       ∙ plus-split one-lt-two m k n (product-below c r hc hr)
-      ∙ sym (visit-index-only (shifted (pair x y) s t) m a c r k (first + n) (only c r hc hr))
+      ∙ sym (visit-index-only (digital (pair x y) (scrambling s)) m a c r k (begins + n) (only c r hc hr))

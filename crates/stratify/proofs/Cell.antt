@@ -1,37 +1,28 @@
--- The code's way from a cell to the index: its exclusive ors are the definitions' differences, and an elimination over the columns of the
--- shape finds the index. Assumes nothing.
-use mathlib.Core.Path.{refl, _∙_}
+-- From the number of a plain cell to the index, by an elimination over the columns of the shape; under a scramble the plain cell is the one from
+-- which it leads to the cell that is asked for. Assumes nothing.
+use mathlib.Core.Path.{refl, sym, _∙_}
 use mathlib.Core.List.{List}
 use Prim.Native.Nat.{ℕ, _+_, _-_, _*_, _^_, _<_}
-use native.Mathlib.Nat.{lt-of-lt-of-le}
-use lib.Pow.{pow-mono}
+use lib.Bits.{bitXor}
 use Rattle.ranges.specs.Unique.{Only}
-use Rattle.digits.proofs.Two.{one-lt-two}
-use Rattle.net.specs.Sequence.{Fits, VisitIn}
-use Rattle.net.specs.Scrambling.{shifted}
+use Rattle.net.specs.Sequence.{VisitIn}
+use Rattle.net.specs.Scrambling.{plain, digital}
 use Rattle.net.specs.Shape.{Shape}
-use Rattle.net.specs.Elimination.{plain-interval}
-use Rattle.net.proofs.Interval.{plain-fits, plain-interval-lt}
-use Rattle.net.proofs.Scrambling.{shift-lawful, scrambled-fits}
-use Rattle.net.proofs.Basis.{index-only}
+use Rattle.net.specs.Elimination.{interval}
+use Rattle.net.proofs.Basis.{index-scrambled}
 use Rattle.word.specs.Matrices.{pair}
 use Rattle.elimination.specs.Elimination.{ShapeColumns, Eliminates}
 use Rattle.elimination.proofs.Shapes.{apart-without-kernel}
+use Rattle.plan.specs.declared.points.Scramble.{Scramble}
+use Rattle.plan.specs.Pair.{scrambling}
+use Rattle.stratify.specs.Answers.{ShiftFits}
+use Rattle.stratify.specs.Strips.{plain-number}
+use Rattle.stratify.proofs.LedBack.{lawful, undone-x, undone-y, number-less, row-before}
 
-module _ {x y : List ℕ} {m a : ℕ} (shape : Shape (pair x y) m a) (s t : ℕ) (hs : s < 2 ^ 32) (ht : t < 2 ^ 32) where
-  pub fits : Fits (shifted (pair x y) s t)
-  fits = scrambled-fits (plain-fits (shape .valid)) (record { x = shift-lawful one-lt-two 32 s hs; y = shift-lawful one-lt-two 32 t ht })
-
-  module _ (k c r : ℕ) (hc : c < 2 ^ a) (hr : r < 2 ^ (m - a)) where
-    cell-lt : plain-interval (shifted (pair x y) s t) m a k c r < 2 ^ m
-    cell-lt = plain-interval-lt one-lt-two fits m a (shape .wide) (shape .fits) k c r hc hr
-
-    pub cell-fits : plain-interval (shifted (pair x y) s t) m a k c r < 2 ^ 32
-    cell-fits = lt-of-lt-of-le cell-lt (pow-mono (shape .fits))
-
-    pub answer : {columns : List ℕ} → ShapeColumns (pair x y) m a columns → (index : ℕ)
-        → Eliminates columns m (plain-interval (shifted (pair x y) s t) m a k c r) 0 index
-        → Only (VisitIn (shifted (pair x y) s t) m a k c r) (k * 2 ^ m + index)
-    answer are index e =
-        index-only shape (apart-without-kernel shape are (e .kernel-is) refl) s t hs ht k c r hc hr index
-        (λ i h is. e .found refl i h (are i h ∙ is))
+pub answer : {x y : List ℕ} {m a : ℕ} → Shape (pair x y) m a → (s : Scramble) → ShiftFits (s .shift) → (k c r : ℕ) → c < 2 ^ a → r < 2 ^ (m - a)
+    → {columns : List ℕ} → ShapeColumns (pair x y) m a columns → (index : ℕ)
+    → Eliminates columns m (bitXor (plain-number s m a c r) (interval (plain (pair x y)) m a (k * 2 ^ m))) 0 index
+    → Only (VisitIn (digital (pair x y) (scrambling s)) m a k c r) (k * 2 ^ m + index)
+answer {m = m} {a = a} shape s fits k c r hc hr are index e =
+    index-scrambled shape (apart-without-kernel shape are (e .kernel-is) refl) (lawful s fits) (undone-x s fits) (undone-y s fits) k c r hc hr index
+    (λ i h is. e .found refl i h (are i h ∙ is ∙ sym (number-less shape k _ _ (row-before shape s fits r hr))))

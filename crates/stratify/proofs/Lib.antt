@@ -1,3 +1,4 @@
+pub mod LedBack
 pub mod Cell
 pub mod Tests
 pub mod Outcomes

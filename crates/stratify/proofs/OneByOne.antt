@@ -9,7 +9,7 @@ use lib.ListN.{length, getD}
 use Rattle.refusal.specs.Outcome.{Outcome, accepted, refused, then}
 use Rattle.refusal.proofs.First.{first-none, first-passes, accepted-refused, accepted-same}
 use Rattle.plan.specs.declared.pair.Plan.{Plan}
-use Rattle.plan.specs.declared.points.Shift.{Shift}
+use Rattle.plan.specs.declared.points.Scramble.{Scramble}
 use Rattle.stratify.specs.Answers.{query-outcome}
 use Rattle.stratify.specs.Overview.{buffers-differ, and-others, one-by-one, cells-outcome, overview-outcome}
 use Rattle.stratify.specs.Overview.{EachAnswers, EarliestRefused, ByQueries}
@@ -91,7 +91,7 @@ pub buffers-match : (cs rs answers : List ℕ) → length cs ≡ length rs → l
 buffers-match cs rs answers e f =
     ap₂ (λ (b d : Bool). not b || not d) (eq-eqb (length cs) (length rs) e) (eq-eqb (length cs) (length answers) f)
 
-module _ (P : Plan) (s : Shift) (level m a k : ℕ) where
+module _ (P : Plan) (s : Scramble) (level m a k : ℕ) where
   -- past 8
   pub cells-are : (cs rs answers : List ℕ) → length cs ≡ length rs → length cs ≡ length answers
       → overview-outcome P s level m a k cs rs answers ≡ cells-outcome P s level m a k cs rs

@@ -1,4 +1,4 @@
--- An overview's tests may be made in the order 2, 4, 5, 6 of the first cell, 7, 3, 6 of the other cells. Assumes nothing.
+-- An overview's tests may be made in the order 2, 17, 18, 4, 5, 6 of the first cell, 7, 3, 6 of the other cells. Assumes nothing.
 use mathlib.Core.Path.{_≡_, refl, sym, ap, ap₂, _∙_}
 use mathlib.Core.Bool.{Bool, true, false, _||_}
 use mathlib.Core.List.{List, [], _∷_}
@@ -14,7 +14,8 @@ use Rattle.refusal.specs.Outcome.{Outcome, accepted, refused, not-net, Test, fi
 use Rattle.refusal.proofs.First.{first-none, first-passes, first-append, first-ext, then-first, AllPass}
 use Rattle.word.specs.Index.{index-bits}
 use Rattle.plan.specs.declared.pair.Plan.{Plan}
-use Rattle.plan.specs.declared.points.Shift.{Shift}
+use Rattle.flips.specs.Load.{not-flips, unused-set}
+use Rattle.plan.specs.declared.points.Scramble.{Scramble}
 use Rattle.plan.specs.Pair.{generators, scrambling, sequence, unknown-level}
 use Rattle.stratify.specs.Answers.{above-level, not-a-shape, not-a-cell, not-a-block, query-tests, of-location, query-outcome}
 use Rattle.stratify.specs.Overview.{and-others, one-by-one, shape-outcome, tests-without-cell, cells-outcome, some-outside}
@@ -33,7 +34,7 @@ others-first (t ∷ ts) o others = go (t .holds) (others-first ts o others)
     go true more = refl
     go false more = more
 
-module _ (P : Plan) (s : Shift) (level m a k : ℕ) where
+module _ (P : Plan) (s : Scramble) (level m a k : ℕ) where
   abbrev one : ℕ → ℕ → Outcome ℕ
   one = query-outcome P s level m a k
 
@@ -43,15 +44,16 @@ module _ (P : Plan) (s : Shift) (level m a k : ℕ) where
   abbrev index : ℕ → ℕ → ℕ
   index = visit-index (sequence P s) m a k
 
-  -- 2, 4, 5 and 7 pass: 6 is left
-  six-left : AllPass (tests-without-cell level m a k) → (c r : ℕ) → one c r ≡ first (not-a-cell 2 m a c r ∷ []) (located c r)
+  -- 2, 17, 18, 4, 5 and 7 pass: 6 is left
+  six-left : AllPass (tests-without-cell (s .flips) level m a k) → (c r : ℕ) → one c r ≡ first (not-a-cell 2 m a c r ∷ []) (located c r)
   six-left all c r =
-      first-passes (located c r) 2 _ (all .0) ∙ first-passes (located c r) 4 _ (all .1 .0) ∙ first-passes (located c r) 5 _ (all .1 .1 .0)
+      first-passes (located c r) 2 _ (all .0) ∙ first-passes (located c r) 17 _ (all .1 .0) ∙ first-passes (located c r) 18 _ (all .1 .1 .0)
+      ∙ first-passes (located c r) 4 _ (all .1 .1 .1 .0) ∙ first-passes (located c r) 5 _ (all .1 .1 .1 .1 .0)
       ∙ first-append (not-a-cell 2 m a c r ∷ []) _ (located c r)
-      ∙ first-ext (not-a-cell 2 m a c r ∷ []) (λ six. first-passes (located c r) 7 [] (all .1 .1 .1 .0) ∙ first-none (located c r))
+      ∙ first-ext (not-a-cell 2 m a c r ∷ []) (λ six. first-passes (located c r) 7 [] (all .1 .1 .1 .1 .1 .0) ∙ first-none (located c r))
 
   -- where the determinant is not 0, each cell has an index or is refused under 6
-  others : {d : ℕ} → determinant (generators P) m a ≡ suc d → AllPass (tests-without-cell level m a k) → (cs rs : List ℕ)
+  others : {d : ℕ} → determinant (generators P) m a ≡ suc d → AllPass (tests-without-cell (s .flips) level m a k) → (cs rs : List ℕ)
       → one-by-one one cs rs
       ≡ first (record { number = 6; holds = some-outside m a cs rs } ∷ []) (accepted (visit-indexes (sequence P s) m a k cs rs))
   unfolding one-by-one some-outside visit-indexes first and-others locate
@@ -69,7 +71,7 @@ module _ (P : Plan) (s : Shift) (level m a k : ℕ) where
       go false false = refl
 
   -- 3, or all answers
-  by-shape : (c r : ℕ) (cs rs : List ℕ) → AllPass (tests-without-cell level m a k)
+  by-shape : (c r : ℕ) (cs rs : List ℕ) → AllPass (tests-without-cell (s .flips) level m a k)
       → and-others (located c r) (one-by-one one cs rs)
       ≡ then (shape-outcome P m a) (first (others-outside m a (c ∷ cs) (r ∷ rs) ∷ [])
       (accepted (visit-indexes (sequence P s) m a k (c ∷ cs) (r ∷ rs))))
@@ -93,9 +95,9 @@ module _ (P : Plan) (s : Shift) (level m a k : ℕ) where
       go (suc d) e = ap (and-others (accepted (index c r))) (others e all cs rs) ∙ put (some-outside m a cs rs)
 
   -- column 0 and row 0 are a cell of every shape: 6 does not hold
-  with-cell : {A : Type 0} (after : Outcome A) → first (query-tests level m a k 0 0) after ≡ first (tests-without-cell level m a k) after
+  with-cell : {A : Type 0} (after : Outcome A) → first (query-tests (s .flips) level m a k 0 0) after ≡ first (tests-without-cell (s .flips) level m a k) after
   with-cell after =
-      let before-six = unknown-level level ∷ above-level level m ∷ not-a-shape m a ∷ [] in
+      let before-six = unknown-level level ∷ not-flips (s .flips) ∷ unused-set (s .flips) ∷ above-level level m ∷ not-a-shape m a ∷ [] in
       let seven = not-a-block 2 index-bits m k ∷ [] in
       first-append before-six (not-a-cell 2 m a 0 0 ∷ seven) after
       ∙ ap (first before-six) (first-passes after 6 seven (cell-within m a 0 0 (pow-pos a) (pow-pos (m - a))))
@@ -108,8 +110,9 @@ module _ (P : Plan) (s : Shift) (level m a k : ℕ) where
   overview-order [] (r ∷ rs) e = absurd (omega arith)
   overview-order (c ∷ cs) [] e = absurd (omega arith)
   overview-order (c ∷ cs) (r ∷ rs) e =
-      others-first (query-tests level m a k c r) (located c r) (one-by-one one cs rs)
-      ∙ first-ext (query-tests level m a k c r) (λ all. by-shape c r cs rs (all .0, (all .1 .0, (all .1 .1 .0, (all .1 .1 .1 .1 .0, tt)))))
+      others-first (query-tests (s .flips) level m a k c r) (located c r) (one-by-one one cs rs)
+      ∙ first-ext (query-tests (s .flips) level m a k c r) (λ all. by-shape c r cs rs
+      (all .0, (all .1 .0, (all .1 .1 .0, (all .1 .1 .1 .0, (all .1 .1 .1 .1 .0, (all .1 .1 .1 .1 .1 .1 .0, tt)))))))
 
   -- the empty list is judged as column 0 and row 0 would be, which every shape has
   three : _≡_ {A = Outcome (List ℕ)} (then (located 0 0) (accepted [])) (then (shape-outcome P m a) (accepted []))
@@ -124,9 +127,9 @@ module _ (P : Plan) (s : Shift) (level m a k : ℕ) where
       go zero = refl
       go (suc d) = refl
 
-  pub empty-query : _≡_ {A = Outcome (List ℕ)} (first (tests-without-cell level m a k) (then (shape-outcome P m a) (accepted [])))
+  pub empty-query : _≡_ {A = Outcome (List ℕ)} (first (tests-without-cell (s .flips) level m a k) (then (shape-outcome P m a) (accepted [])))
       (then (one 0 0) (accepted []))
   empty-query =
       let after = then {B = List ℕ} (located 0 0) (accepted []) in
-      sym (then-first (query-tests level m a k 0 0) (located 0 0) (accepted []) ∙ with-cell after
-      ∙ ap (first (tests-without-cell level m a k)) three)
+      sym (then-first (query-tests (s .flips) level m a k 0 0) (located 0 0) (accepted []) ∙ with-cell after
+      ∙ ap (first (tests-without-cell (s .flips) level m a k)) three)

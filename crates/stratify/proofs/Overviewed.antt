@@ -20,7 +20,7 @@ use Rattle.refusal.proofs.First.{first-none, first-refuses, first-other, refuse
 use Rattle.refusal.proofs.First.{accepted-refused, refused-same}
 use Rattle.refusal.proofs.First.{then-accepted, then-refused, refused-leaves, accepted-hands}
 use Rattle.plan.specs.declared.pair.Plan.{Plan}
-use Rattle.plan.specs.declared.points.Shift.{Shift}
+use Rattle.plan.specs.declared.points.Scramble.{Scramble}
 use Rattle.plan.specs.Pair.{generators, sequence}
 use Rattle.stratify.specs.Answers.{query-tests}
 use Rattle.stratify.specs.Overview.{shape-outcome, others-outside, visit-indexes, cells-outcome, overview-outcome, ordered-outcome}
@@ -67,7 +67,7 @@ module _ (old : List ℕ) {o : Outcome (List ℕ)} where
 
 -- ---- the tests
 
-module _ (P : Plan) (s : Shift) (level m a k : ℕ) (cs rs old : List ℕ) where
+module _ (P : Plan) (s : Scramble) (level m a k : ℕ) (cs rs old : List ℕ) where
   abbrev outcome : Outcome (List ℕ)
   outcome = overview-outcome P s level m a k cs rs old
 
@@ -83,7 +83,7 @@ module _ (P : Plan) (s : Shift) (level m a k : ℕ) (cs rs old : List ℕ) where
 
   module _ (e : length cs ≡ length rs) (f : length cs ≡ length old) where
     abbrev tests : List Test
-    tests = query-tests level m a k (getD cs 0 0) (getD rs 0 0)
+    tests = query-tests (s .flips) level m a k (getD cs 0 0) (getD rs 0 0)
 
     abbrev others : Outcome (List ℕ)
     others = first (others-outside m a cs rs ∷ []) (accepted (visit-indexes (sequence P s) m a k cs rs))
@@ -107,7 +107,7 @@ module _ (P : Plan) (s : Shift) (level m a k : ℕ) (cs rs old : List ℕ) where
 -- ---- 8, exactly
 
 -- none of the tests after 8 gives it
-module _ (P : Plan) (s : Shift) (level m a k : ℕ) (cs rs : List ℕ) where
+module _ (P : Plan) (s : Scramble) (level m a k : ℕ) (cs rs : List ℕ) where
   abbrev answers-of : Outcome (List ℕ)
   answers-of = accepted (visit-indexes (sequence P s) m a k cs rs)
 
@@ -125,13 +125,15 @@ module _ (P : Plan) (s : Shift) (level m a k : ℕ) (cs rs : List ℕ) where
   never-eight : ordered-outcome P s level m a k cs rs ≡ refused 8 [] → ⊥
   never-eight h =
       let at-2 = first-other _ 2 _ (λ e. omega (arith, e)) _ h .1 in
-      let at-4 = first-other _ 4 _ (λ e. omega (arith, e)) _ at-2 .1 in
+      let at-17 = first-other _ 17 _ (λ e. omega (arith, e)) _ at-2 .1 in
+      let at-18 = first-other _ 18 _ (λ e. omega (arith, e)) _ at-17 .1 in
+      let at-4 = first-other _ 4 _ (λ e. omega (arith, e)) _ at-18 .1 in
       let at-5 = first-other _ 5 _ (λ e. omega (arith, e)) _ at-4 .1 in
       let at-6 = first-other _ 6 _ (λ e. omega (arith, e)) _ at-5 .1 in
       let at-7 = first-other _ 7 [] (λ e. omega (arith, e)) _ at-6 .1 in
       after-shape (shape-decides P m a) (sym (first-none _) ∙ at-7)
 
-pub lengths-decide : (P : Plan) (s : Shift) (level m a k : ℕ) (cs rs answers : List ℕ)
+pub lengths-decide : (P : Plan) (s : Scramble) (level m a k : ℕ) (cs rs answers : List ℕ)
     → (overview-outcome P s level m a k cs rs answers ≡ refused 8 []) ↔ ((length cs ≡ length rs) × (length cs ≡ length answers) → ⊥)
 lengths-decide P s level m a k cs rs answers = (
   λ h (e, f). never-eight P s level m a k cs rs

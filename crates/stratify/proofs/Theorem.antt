@@ -1,4 +1,4 @@
--- One term of `Theorems`: demand 3, C-14 and C-15 from the theorems of net. Assumes nothing.
+-- One term of `Theorems`: demand 3, C-14, C-15 and C-16 from the theorems of net. Assumes nothing.
 use mathlib.Core.Path.{_≡_, refl, sym, ap, _∙_, subst}
 use mathlib.Core.Bool.{not}
 use mathlib.Core.List.{List}
@@ -20,7 +20,7 @@ use Rattle.digits.proofs.Two.{one-lt-two, minus-two}
 use Rattle.linear.proofs.Prime.{two}
 use Rattle.net.specs.Generators.{Valid}
 use Rattle.net.specs.Sequence.{Sequence, column, row, VisitIn}
-use Rattle.net.specs.Scrambling.{plain, Lawful}
+use Rattle.net.specs.Scrambling.{unchanged, plain, shifted}
 use Rattle.net.specs.Shape.{Shape, Passes}
 use Rattle.net.specs.Check.{check}
 use Rattle.net.specs.Query.{locate}
@@ -28,31 +28,42 @@ use Rattle.net.specs.Net.{Net}
 use Rattle.net.specs.Answers.{LocateDecides, CheckDecides}
 use Rattle.net.specs.Run.{Visit, visit, visits, run, hits}
 use Rattle.net.specs.Standard.{standard}
-use Rattle.net.proofs.Scrambling.{shift-lawful}
 use Rattle.net.proofs.Least.{least-index-least}
 use Rattle.net.proofs.Check.{nonzero}
-use Rattle.net.proofs.Query.{locate-found}
+use Rattle.net.proofs.Query.{locate-found, locate-same}
 use Rattle.net.proofs.Theorem as net
 use Rattle.refusal.specs.Outcome.{accepted}
 use Rattle.refusal.proofs.First.{first-accepted}
 use Rattle.word.specs.Index.{index-count, last-index}
 use Rattle.plan.specs.declared.pair.Plan.{Plan}
+use Rattle.flips.proofs.Theorem as flips
 use Rattle.plan.specs.declared.points.Shift.{Shift}
-use Rattle.plan.specs.Pair.{generators, scrambling, sequence, largest-level, unknown-level, Level, loaded}
+use Rattle.plan.specs.declared.points.Scramble.{Scramble}
+use Rattle.plan.specs.Pair.{generators, scrambling, only-shift, sequence, largest-level, unknown-level, Level, loaded}
 use Rattle.plan.specs.Lists.{visits-walked}
 use Rattle.plan.proofs.Loading.{loaded-accepted}
 use Rattle.plan.proofs.Lists.{filled-visits, filled-part, opened, within, steps, walk-visits, last-walk}
 use Rattle.plan.proofs.Level.{level-of}
-use Rattle.stratify.specs.Answers.{of-verdict, of-location, check-outcome, query-outcome, ShiftFits, Cell}
-use Rattle.stratify.specs.Theorem.{PlainRelation, VisitedOnce, Covered, RelatedToPlain, Queried, Checked, Lists, GivesRun}
+use Rattle.plan.proofs.Theorem as plan
+use Rattle.stratify.specs.Answers.{of-verdict, of-location, check-outcome, query-outcome, ShiftFits, ScrambleFits, Cell}
+use Rattle.stratify.specs.Strips.{plain-column, plain-row}
+use Rattle.stratify.specs.Theorem.{unscrambled, VisitedOnce, Covered, RelatedToPlain, Queried, Checked, Lists, GivesRun}
 use Rattle.stratify.specs.Theorem.{Counted, CountedAnywhere, StandardPair, Theorems}
+use Rattle.stratify.proofs.LedBack.{lawful, undone-x, undone-y, column-before, row-before}
 use Rattle.stratify.proofs.OneByOne.{by-queries}
 use Rattle.stratify.proofs.Overviewed.{lengths-decide}
 use Rattle.stratify.proofs.Outcomes.{query-outcome-is, check-outcome-is, verdict-accepted, verdict-not-net, verdict-refuses}
 use Rattle.stratify.proofs.Outcomes.{location-accepted, location-not-net}
 
-pub lawful : (s : Shift) → ShiftFits s → Lawful 2 32 (scrambling s)
-lawful s words = record { x = shift-lawful one-lt-two 32 (s .x) (words .x); y = shift-lawful one-lt-two 32 (s .y) (words .y) }
+-- a shift alone is fit, and adds what it did before there were flips
+shift-alone : (s : Shift) → ShiftFits s → ScrambleFits (only-shift s)
+shift-alone s words = record { shift = words; flips = flips.theorems .none-accepted }
+
+unflipped : {P : Plan} → Valid (generators P) → (s : Shift) → sequence P (only-shift s) ≡ shifted (generators P) (s .x) (s .y)
+unflipped = plan.theorems .unflipped
+
+unshifted : {P : Plan} → Valid (generators P) → sequence P unscrambled ≡ plain (generators P)
+unshifted {P} valid = unflipped valid (record { x = 0; y = 0 }) ∙ net.theorems .unshifted (generators P) one-lt-two
 
 -- ---- 1, 2: a plan that passes
 
@@ -60,40 +71,23 @@ module _ {P : Plan} (valid : Valid (generators P)) {M : ℕ} (fits : M ≤ large
   N : Net (generators P) M
   N = net.theorems .net valid two M fits passes
 
-  module _ (s : Shift) (words : ShiftFits s) (m a k c r : ℕ) (cell : Cell M m a k c r) where
+  module _ (s : Scramble) (words : ScrambleFits s) (m a k c r : ℕ) (cell : Cell M m a k c r) where
     abbrev S : Sequence
     S = sequence P s
 
     one-visit : One (VisitIn S m a k c r)
-    one-visit = (_, N .stratified m a (cell .size) (cell .wide) .one-visit (scrambling s) (lawful s words) k c r (cell .column) (cell .row))
+    one-visit = (_, N .stratified m a (cell .size) (cell .wide) .one-visit (scrambling s) (lawful s (words .shift)) k c r (cell .column) (cell .row))
 
     -- the query's answer, for any level that admits the cell
     answered : (i : ℕ) → Only (VisitIn S m a k c r) i → (level : ℕ) → Level level → m ≤ level → query-outcome P s level m a k c r ≡ accepted i
     answered i only level known size =
         let own : Cell level m a k c r = record { size = size; wide = cell .wide; column = cell .column; row = cell .row; block = cell .block } in
         let odd = nonzero (generators P) M passes m a (cell .size) (cell .wide) in
-        query-outcome-is P s level m a k c r known own
+        query-outcome-is P s level m a k c r known (words .flips) own
         ∙ ap (of-location m a) (locate-found (generators P) (scrambling s) m a k c r i odd only)
 
-    -- in base two a difference is an exclusive or
-    as-xor : (c r u v p : ℕ) → Only (VisitIn (plain (generators P)) m a 0 (minus 2 c u) (minus 2 r v)) p
-        → Only (VisitIn (plain (generators P)) m a 0 (bitXor c u) (bitXor r v)) p
-    as-xor c r u v p only = rw (← minus-two c u, ← minus-two r v) only
-
-    relation : (p : ℕ) × PlainRelation P s m a k c r p
-    relation =
-        let related-in = N .stratified m a (cell .size) (cell .wide) .relation (s .x) (s .y) (words .x) (words .y) k c r in
-        let (p, related) = related-in (cell .column) (cell .row) in (
-          p,
-          record {
-            plain-visit = as-xor c r (column S a (k * 2 ^ m)) (row S (m - a) (k * 2 ^ m)) p (related .plain-visit);
-            block-visit = related .block-visit;
-            answer = answered (k * 2 ^ m + p) (related .block-visit);
-          },
-        )
-
     one-hit : hits S m a c r (run S m k) ≡ 1
-    one-hit = N .one-hit (scrambling s) (lawful s words) m a k c r (cell .size) (cell .wide) (cell .column) (cell .row)
+    one-hit = N .one-hit (scrambling s) (lawful s (words .shift)) m a k c r (cell .size) (cell .wide) (cell .column) (cell .row)
 
     -- in a list of visits that begins with the block's first and goes through the block
     hit-in : (l : List Visit) (n : ℕ) → l ≡ visits S (k * 2 ^ m) n → 2 ^ m ≤ n → hits S m a c r (take (2 ^ m) l) ≡ 1
@@ -107,22 +101,44 @@ module _ {P : Plan} (valid : Valid (generators P)) {M : ℕ} (fits : M ≤ large
       one-visit = one-visit;
       query = answered (one-visit .0) (one-visit .1);
       points = one-hit;
-      fills = λ xs ys e. hit-in _ (length xs) (filled-visits index-count S (k * 2 ^ m) xs ys e);
+      fills = λ xs ys e. hit-in _ (length xs) (filled-visits index-count (s .flips) S (k * 2 ^ m) xs ys e);
       walks = λ count n w e long many. hit-in _ (min n count) (walk-visits (k * 2 ^ m) count w e n S) (omega arith);
     }
 
   covered : Covered P M
   covered = visited-once
 
+  -- in base two a difference is an exclusive or
+  as-xor : (m a c r u v p : ℕ) → Only (VisitIn (plain (generators P)) m a 0 (minus 2 c u) (minus 2 r v)) p
+      → Only (VisitIn (plain (generators P)) m a 0 (bitXor c u) (bitXor r v)) p
+  as-xor m a c r u v p only = rw (← minus-two c u, ← minus-two r v) only
+
+  -- the relation is net's, of the sequence that is only shifted
   related : RelatedToPlain P M
-  related = relation
+  related s words m a k c r cell =
+      let under-shift = unflipped valid s in
+      let related-in = N .stratified m a (cell .size) (cell .wide) .relation (s .x) (s .y) (words .x) (words .y) k c r in
+      let (p, related) = related-in (cell .column) (cell .row) in
+      let S = sequence P (only-shift s) in
+      let moved : (T : Sequence) → T ≡ S → Only (VisitIn (plain (generators P)) m a 0 (minus 2 c (column T a (k * 2 ^ m)))
+      (minus 2 r (row T (m - a) (k * 2 ^ m)))) p → Only (VisitIn (plain (generators P)) m a 0 (minus 2 c (column S a (k * 2 ^ m)))
+      (minus 2 r (row S (m - a) (k * 2 ^ m)))) p = λ T e only. subst (λ (T : Sequence). Only (VisitIn (plain (generators P)) m a 0
+      (minus 2 c (column T a (k * 2 ^ m))) (minus 2 r (row T (m - a) (k * 2 ^ m)))) p) e only in
+      let there = subst (λ (T : Sequence). Only (VisitIn T m a k c r) (k * 2 ^ m + p)) (sym under-shift) (related .block-visit) in (
+        p,
+        record {
+          plain-visit = as-xor m a c r (column S a (k * 2 ^ m)) (row S (m - a) (k * 2 ^ m)) p (moved _ (sym under-shift) (related .plain-visit));
+          block-visit = there;
+          answer = answered (only-shift s) (shift-alone s words) m a k c r cell (k * 2 ^ m + p) there;
+        },
+      )
 
   -- ---- 6: counts; each way gives the visits of the range
 
-  module _ (s : Shift) (words : ShiftFits s) (m a c r : ℕ) (size : m ≤ M) (wide : a ≤ m) (hc : c < 2 ^ a) (hr : r < 2 ^ (m - a))
+  module _ (s : Scramble) (words : ScrambleFits s) (m a c r : ℕ) (size : m ≤ M) (wide : a ≤ m) (hc : c < 2 ^ a) (hr : r < 2 ^ (m - a))
       (start n : ℕ) (some : 1 ≤ n) where
     of-visits : CountBounds start n (2 ^ m) (hits (sequence P s) m a c r (visits (sequence P s) start n))
-    of-visits = N .counts (scrambling s) (lawful s words) m a c r size wide hc hr start n some
+    of-visits = N .counts (scrambling s) (lawful s (words .shift)) m a c r size wide hc hr start n some
 
     of-list : (l : List Visit) → l ≡ visits (sequence P s) start n → CountBounds start n (2 ^ m) (hits (sequence P s) m a c r l)
     of-list l e = subst (λ (v : List Visit). CountBounds start n (2 ^ m) (hits (sequence P s) m a c r v)) (sym e) of-visits
@@ -131,7 +147,7 @@ module _ {P : Plan} (valid : Valid (generators P)) {M : ℕ} (fits : M ≤ large
     counts = record {
       of-visits = of-visits;
       points = of-visits;
-      fills = λ first xs ys e from long. of-list _ (filled-part index-count (sequence P s) start n first xs ys e from long);
+      fills = λ first xs ys e from long. of-list _ (filled-part index-count (s .flips) (sequence P s) start n first xs ys e from long);
       walks = λ count steps w e all. of-list _ (walk-visits start count w e steps (sequence P s) ∙ ap (visits (sequence P s) start) all);
     }
 
@@ -140,23 +156,23 @@ module _ {P : Plan} (valid : Valid (generators P)) {M : ℕ} (fits : M ≤ large
 
 -- ---- 3: the query
 
-module _ {P : Plan} (valid : Valid (generators P)) {s : Shift} (words : ShiftFits s) {level m a k c r : ℕ} (known : Level level)
+module _ {P : Plan} (valid : Valid (generators P)) {s : Scramble} (words : ScrambleFits s) {level m a k c r : ℕ} (known : Level level)
     (cell : Cell level m a k c r) where
   shape : Shape (generators P) m a
   shape = let size = cell .size in let top = known .not-above in record { valid = valid; wide = cell .wide; fits = omega arith }
 
   L : LocateDecides (generators P) (scrambling s) m a k c r
-  L = net.theorems .located shape two (lawful s words) k c r (cell .column) (cell .row)
+  L = net.theorems .located shape two (lawful s (words .shift)) k c r (cell .column) (cell .row)
 
   is : query-outcome P s level m a k c r ≡ of-location m a (locate (generators P) (scrambling s) m a k c r)
-  is = query-outcome-is P s level m a k c r known cell
+  is = query-outcome-is P s level m a k c r known (words .flips) cell
 
   queried : Queried P s level m a k c r
   queried = record {
     answers-iff = (
       λ (i, e). L .found-iff i .0 (location-accepted m a is i .0 e) .0,
       λ odd.
-          let only = net.theorems .net-test shape two .stratified-iff .0 odd .one-visit _ (lawful s words) k c r (cell .column) (cell .row) in
+          let only = net.theorems .net-test shape two .stratified-iff .0 odd .one-visit _ (lawful s (words .shift)) k c r (cell .column) (cell .row) in
           (_, location-accepted m a is _ .1 (L .found-iff _ .1 (odd, only))),
     );
     answer-iff = λ i. (λ e. L .found-iff i .0 (location-accepted m a is i .0 e), λ h. location-accepted m a is i .1 (L .found-iff i .1 h));
@@ -169,12 +185,25 @@ module _ {P : Plan} (valid : Valid (generators P)) {s : Shift} (words : ShiftFit
     refusal-iff = λ j. (λ e. L .bad-shape-iff j .0 (location-not-net m a is j .0 e), λ h. location-not-net m a is j .1 (L .bad-shape-iff j .1 h));
   }
 
-size-zero : {P : Plan} → Valid (generators P) → {s : Shift} → ShiftFits s → {level : ℕ} → Level level → {k : ℕ} → k < 2 ^ 32
+  -- the plain query of the cell to which the scramble is undone
+  led-back : query-outcome P s level m a k c r ≡ query-outcome P unscrambled level m a k (plain-column s a c) (plain-row s m a r)
+  led-back =
+      let shift = words .shift in
+      let hc = column-before shape s shift c (cell .column) in
+      let hr = row-before shape s shift r (cell .row) in
+      let own : Cell level m a k (plain-column s a c) (plain-row s m a r) =
+      record { size = cell .size; wide = cell .wide; column = hc; row = hr; block = cell .block } in
+      is ∙ ap (of-location m a)
+      (net.theorems .led-back shape two (lawful s shift) (undone-x s shift) (undone-y s shift) k c r (cell .column) (cell .row)
+      ∙ sym (locate-same (generators P) (scrambling unscrambled) unchanged (unshifted valid) m a k _ _))
+      ∙ sym (query-outcome-is P unscrambled level m a k _ _ known (flips.theorems .none-accepted) own)
+
+size-zero : {P : Plan} → Valid (generators P) → {s : Scramble} → ScrambleFits s → {level : ℕ} → Level level → {k : ℕ} → k < 2 ^ 32
     → query-outcome P s level 0 0 k 0 0 ≡ accepted k
 size-zero {P} valid {s} words {level} known {k} h =
     let one-cell : 0 < 2 ^ 0 = omega arith in
     let cell : Cell level 0 0 k 0 0 = record { size = omega arith; wide = omega arith; column = one-cell; row = one-cell; block = h } in
-    location-accepted 0 0 (query-outcome-is P s level 0 0 k 0 0 known cell) k .1 (net.theorems .size-zero valid (lawful s words) k)
+    location-accepted 0 0 (query-outcome-is P s level 0 0 k 0 0 known (words .flips) cell) k .1 (net.theorems .size-zero valid (lawful s (words .shift)) k)
 
 -- ---- 4: the check
 
@@ -202,10 +231,10 @@ checked words below long {level} known = record {
 
 -- ---- 5: the lists
 
-lists : (P : Plan) (s : Shift) → Lists P s
+lists : (P : Plan) (s : Scramble) → Lists P s
 lists P s = record {
   points = λ start n. refl;
-  fills = filled-visits index-count (sequence P s);
+  fills = filled-visits index-count (s .flips) (sequence P s);
   opened = opened index-count;
   steps = λ start count w e n. steps start count w e n (visit (sequence P s));
   walks = λ start count w e n. walk-visits start count w e n (sequence P s);
@@ -213,10 +242,10 @@ lists P s = record {
   by-hand = ranges.theorems .walked-by-hand _ last-index;
 }
 
-gives-run : (P : Plan) (s : Shift) (m k : ℕ) → GivesRun P s m k
+gives-run : (P : Plan) (s : Scramble) (m k : ℕ) → GivesRun P s m k
 gives-run P s m k = record {
   points = refl;
-  fills = λ p xs ys e. ap (take (2 ^ m - p)) (filled-visits index-count S (k * 2 ^ m + p) xs ys e) ∙ net.theorems .runs S m k .run-from p (length xs);
+  fills = λ p xs ys e. ap (take (2 ^ m - p)) (filled-visits index-count (s .flips) S (k * 2 ^ m + p) xs ys e) ∙ net.theorems .runs S m k .run-from p (length xs);
   walks = λ count n w e.
       ap (λ (v : Walk). take (2 ^ m) (visits-walked S n v)) (opened index-count (k * 2 ^ m) count w e)
       ∙ net.theorems .walked-run S m k last-index count n (within index-count (k * 2 ^ m) count w e) .list;
@@ -270,6 +299,7 @@ theorems = record {
   related = related;
   counted = counted;
   queried = queried;
+  led-back = led-back;
   size-zero = size-zero;
   overview-lengths = lengths-decide;
   overview = by-queries;
@@ -277,7 +307,7 @@ theorems = record {
   accepted-covered = accepted-covered;
   accepted-related = accepted-related;
   accepted-counted = accepted-counted;
-  unshifted = λ P. net.theorems .unshifted (generators P) one-lt-two;
+  unshifted = unshifted;
   lists = lists;
   gives-run = gives-run;
   standard = standard-pair-theorem;

@@ -1,4 +1,5 @@
 -- What the check and the query answer.
+use mathlib.Core.Path.{_≡_}
 use mathlib.Core.Bool.{_||_}
 use mathlib.Core.List.{List, [], _∷_}
 use Prim.Native.Nat.{ℕ, _-_, _^_, _≤_, _<_}
@@ -9,7 +10,10 @@ use Rattle.refusal.specs.Outcome.{Outcome, accepted, not-net, Test, first}
 use Rattle.refusal.specs.Refusal.{of-refusal}
 use Rattle.word.specs.Index.{index-bits}
 use Rattle.plan.specs.declared.pair.Plan.{Plan}
+use Rattle.flips.specs.declared.sets.Flips.{Flips}
+use Rattle.flips.specs.Load.{not-flips, unused-set, flips-outcome}
 use Rattle.plan.specs.declared.points.Shift.{Shift}
+use Rattle.plan.specs.declared.points.Scramble.{Scramble}
 use Rattle.plan.specs.Pair.{generators, scrambling, loaded, not-a-pair, unknown-level}
 use Rattle.stratify.specs.declared.queries.Located.{Located}
 use Rattle.stratify.specs.declared.queries.Located.the-variants as located
@@ -44,18 +48,20 @@ abbrev pub not-a-block : (b w m k : ℕ) → Test
 not-a-block b w m k = record { number = 7; holds = leb (b ^ (w - m)) k }
 
 -- all but 3
-abbrev pub query-tests : (level m a k c r : ℕ) → List Test
-query-tests level m a k c r =
-    unknown-level level ∷ above-level level m ∷ not-a-shape m a ∷ not-a-cell 2 m a c r ∷ not-a-block 2 index-bits m k ∷ []
+abbrev pub query-tests : Flips → (level m a k c r : ℕ) → List Test
+query-tests f level m a k c r =
+    unknown-level level ∷ not-flips f ∷ unused-set f ∷ above-level level m ∷ not-a-shape m a ∷ not-a-cell 2 m a c r
+    ∷ not-a-block 2 index-bits m k ∷ []
 
 -- found, or 3 with the shape that was asked for and its j
 abbrev pub of-location : ℕ → ℕ → Location → Outcome ℕ
 of-location m a (found i) = accepted i
 of-location m a (bad-shape j) = not-net m a j
 
--- what the query comes to: refused under 2, 4, 5, 6, 7 or 3, in this order
-abbrev pub query-outcome : Plan → Shift → (level m a k c r : ℕ) → Outcome ℕ
-query-outcome P s level m a k c r = first (query-tests level m a k c r) (of-location m a (locate (generators P) (scrambling s) m a k c r))
+-- what the query comes to: refused under 2, 17, 18, 4, 5, 6, 7 or 3, in this order
+abbrev pub query-outcome : Plan → Scramble → (level m a k c r : ℕ) → Outcome ℕ
+query-outcome P s level m a k c r =
+    first (query-tests (s .flips) level m a k c r) (of-location m a (locate (generators P) (scrambling s) m a k c r))
 
 -- the code's answer
 abbrev pub of-located : Located → Outcome ℕ
@@ -72,7 +78,12 @@ pub record Cell (M m a k c r : ℕ) : Type 0 where
   pub row : r < 2 ^ (m - a)
   pub block : k < 2 ^ (index-bits - m)
 
--- and a shift of words, as the code's is
+-- a shift of words, as the code's is
 pub record ShiftFits (s : Shift) : Type 0 where
   pub x : s .x < 2 ^ 32
   pub y : s .y < 2 ^ 32
+
+-- 17, 18: and with it flips of 32 bytes an axis without bit 255
+pub record ScrambleFits (s : Scramble) : Type 0 where
+  pub shift : ShiftFits (s .shift)
+  pub flips : flips-outcome (s .flips) ≡ accepted tt

@@ -13,7 +13,9 @@ use Rattle.net.specs.Query.{visit-index}
 use Rattle.refusal.specs.Outcome.{Outcome, accepted, refused, not-net, Test, first, then}
 use Rattle.word.specs.Index.{index-bits}
 use Rattle.plan.specs.declared.pair.Plan.{Plan}
-use Rattle.plan.specs.declared.points.Shift.{Shift}
+use Rattle.flips.specs.declared.sets.Flips.{Flips}
+use Rattle.flips.specs.Load.{not-flips, unused-set}
+use Rattle.plan.specs.declared.points.Scramble.{Scramble}
 use Rattle.plan.specs.Pair.{generators, sequence, unknown-level}
 use Rattle.plan.specs.Fill.{lengths-differ}
 use Rattle.stratify.specs.Answers.{above-level, not-a-shape, not-a-cell, not-a-block, query-tests, query-outcome}
@@ -35,8 +37,9 @@ one-by-one one [] rs = accepted []
 one-by-one one (c ∷ cs) [] = accepted []
 
 -- a query's tests without 6, which needs a cell
-abbrev pub tests-without-cell : (level m a k : ℕ) → List Test
-tests-without-cell level m a k = unknown-level level ∷ above-level level m ∷ not-a-shape m a ∷ not-a-block 2 index-bits m k ∷ []
+abbrev pub tests-without-cell : Flips → (level m a k : ℕ) → List Test
+tests-without-cell f level m a k =
+    unknown-level level ∷ not-flips f ∷ unused-set f ∷ above-level level m ∷ not-a-shape m a ∷ not-a-block 2 index-bits m k ∷ []
 
 -- 3 of the shape
 unfoldable pub shape-outcome : Plan → ℕ → ℕ → Outcome Unit
@@ -44,12 +47,12 @@ shape-outcome P m a =
     elim (determinant (generators P) m a) [ zero ↦ not-net m a (least-index (plain (generators P)) m a) | suc d ↦ accepted tt ]
 
 -- the cells of a list: by their single queries; no cell: by a query's tests without 6
-abbrev pub cells-outcome : Plan → Shift → (level m a k : ℕ) → List ℕ → List ℕ → Outcome (List ℕ)
-cells-outcome P s level m a k [] rs = first (tests-without-cell level m a k) (then (shape-outcome P m a) (accepted []))
+abbrev pub cells-outcome : Plan → Scramble → (level m a k : ℕ) → List ℕ → List ℕ → Outcome (List ℕ)
+cells-outcome P s level m a k [] rs = first (tests-without-cell (s .flips) level m a k) (then (shape-outcome P m a) (accepted []))
 cells-outcome P s level m a k (c ∷ cs) rs = one-by-one (query-outcome P s level m a k) (c ∷ cs) rs
 
 -- what an overview comes to: 8, or what the earliest refused cell would get, or all answers
-abbrev pub overview-outcome : Plan → Shift → (level m a k : ℕ) → (cs rs answers : List ℕ) → Outcome (List ℕ)
+abbrev pub overview-outcome : Plan → Scramble → (level m a k : ℕ) → (cs rs answers : List ℕ) → Outcome (List ℕ)
 overview-outcome P s level m a k cs rs answers = first (buffers-differ cs rs answers ∷ []) (cells-outcome P s level m a k cs rs)
 
 -- ---- the order in which the tests may be made
@@ -70,11 +73,11 @@ visit-indexes S m a k (c ∷ cs) (r ∷ rs) = visit-index S m a k c r ∷ visit-
 visit-indexes S m a k [] rs = []
 visit-indexes S m a k (c ∷ cs) [] = []
 
--- after 8: 2, 4, 5, 6 of the first cell, 7; 3; 6 of the other cells; and then the index of each cell. Where there is no first cell, column 0
+-- after 8: 2, 17, 18, 4, 5, 6 of the first cell, 7; 3; 6 of the other cells; and then the index of each cell. Where there is no first cell, column 0
 -- and row 0 stand for it, which every shape has.
-abbrev pub ordered-outcome : Plan → Shift → (level m a k : ℕ) → List ℕ → List ℕ → Outcome (List ℕ)
+abbrev pub ordered-outcome : Plan → Scramble → (level m a k : ℕ) → List ℕ → List ℕ → Outcome (List ℕ)
 ordered-outcome P s level m a k cs rs =
-    first (query-tests level m a k (getD cs 0 0) (getD rs 0 0))
+    first (query-tests (s .flips) level m a k (getD cs 0 0) (getD rs 0 0))
     (then (shape-outcome P m a) (first (others-outside m a cs rs ∷ []) (accepted (visit-indexes (sequence P s) m a k cs rs))))
 
 -- ---- what an overview says of the single queries
@@ -93,7 +96,7 @@ pub record EarliestRefused (one : ℕ → ℕ → Outcome ℕ) (cs rs : List ℕ
 
 -- Of a list that is not empty, the answers are those of the single queries, and a refusal is that of the earliest refused cell. The empty list
 -- is judged as the query of column 0 and row 0, which every shape has. The tests may be made in the order of `ordered-outcome`.
-pub record ByQueries (P : Plan) (s : Shift) (level m a k : ℕ) (cs rs answers : List ℕ) : Type 0 where
+pub record ByQueries (P : Plan) (s : Scramble) (level m a k : ℕ) (cs rs answers : List ℕ) : Type 0 where
   pub answered : (is : List ℕ) → 0 < length cs
       → (overview-outcome P s level m a k cs rs answers ≡ accepted is) ↔ EachAnswers (query-outcome P s level m a k) cs rs is
   pub earliest : (n : ℕ) (vs : List ℕ) → 0 < length cs

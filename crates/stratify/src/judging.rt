@@ -8,6 +8,8 @@ ghost use mathlib.Core.Path.{_≡_};
 ghost use Prim.Native.Nat.{_≤_};
 ghost use Rattle.refusal.specs.Outcome.{accepted, first};
 ghost use Rattle.refusal.specs.Refusal.{of-judgement};
+ghost use Rattle.flips.specs.declared.sets.Flips.{Flips};
+ghost use Rattle.flips.specs.Load.{flips-outcome};
 ghost use Rattle.stratify.specs.Answers.{not-a-cell, query-tests};
 
 // Whether a column or a row lies outside the shape (m, a).
@@ -21,12 +23,27 @@ pub(crate) fn outside(m: u32, a: u32, column: u32, row: u32) -> bool
     (row as u64) >> (m - a) != 0
 }
 
-// 2, 4, 5, 6 and 7, in this order.
-pub(crate) fn judge(level: u32, m: u32, a: u32, column: u32, row: u32, block: Block) -> Judgement
-    ensures { λ r. ⌜ of-judgement r ≡ first (query-tests level m a block column row) (accepted tt) ⌝ }
+// 2, what loading the flips has come to (17, 18), 4, 5, 6 and 7, in this order.
+pub(crate) fn judge(
+    flips: Judgement,
+    level: u32,
+    m: u32,
+    a: u32,
+    column: u32,
+    row: u32,
+    block: Block,
+) -> Judgement
+    ensures { λ r. ⌜
+        ((f : Flips) → of-judgement flips ≡ flips-outcome f → of-judgement r ≡ first (query-tests f level m a block column row) (accepted tt)) ⌝ }
 {
     if Plan::unknown_level(level) {
         return Judgement::Refused(Refusal::Level);
+    }
+    match flips {
+        Judgement::Refused(why) => {
+            return Judgement::Refused(why);
+        }
+        Judgement::Accepted => {}
     }
     if m > level {
         return Judgement::Refused(Refusal::Size);

@@ -4,6 +4,7 @@ mod checks;
 mod judging;
 mod overviews;
 mod queries;
+mod strips;
 
 pub use checks::check;
 pub use overviews::overview;

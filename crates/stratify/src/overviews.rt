@@ -2,10 +2,14 @@
 use crate::Block;
 use crate::judging::judge;
 use crate::judging::outside;
-use crate::queries::plain_cell;
+use crate::strips::block_cell;
+use crate::strips::plain_number_among;
+use crate::strips::shift_number;
 use elimination::invert;
 use elimination::shape_columns;
+use flips::Flips;
 use plan::Plan;
+use plan::Scramble;
 use plan::Shift;
 use refusal::Judgement;
 use refusal::Refusal;
@@ -18,7 +22,7 @@ ghost use lib.ListN.{length, getD};
 ghost use Rattle.net.specs.Generators.{Valid};
 ghost use Rattle.refusal.specs.Outcome.{accepted, then, part-left};
 ghost use Rattle.refusal.specs.Refusal.{of-judgement};
-ghost use Rattle.plan.specs.Pair.{generators, sequence, largest-level};
+ghost use Rattle.plan.specs.Pair.{generators, sequence, scramble-of, largest-level};
 ghost use Rattle.elimination.specs.Elimination.{ShapeInverse};
 ghost use Rattle.stratify.specs.Answers.{Cell, ShiftFits};
 ghost use Rattle.stratify.specs.Overview.{AllInside, others-outside, overview-outcome, visit-indexes};
@@ -48,11 +52,11 @@ fn others_outside(m: u32, a: u32, columns: &[u32], rows: &[u32]) -> bool
     false
 }
 
-// Writes the index of the block in each cell: the product of the inverse with the cell's number, and one word that block and shift add for
-// all cells. That word is the answer for column 0 and row 0.
+// Writes the index of the block in each cell: the product of the inverse with the number of the plain cell from which it comes, and one word that
+// the block adds for all cells.
 fn put_answers(
     plan: Plan,
-    shift: Shift,
+    scramble: Scramble,
     inverse: Columns,
     m: u32,
     a: u32,
@@ -61,16 +65,20 @@ fn put_answers(
     rows: &[u32],
     answers: &mut [Index],
 )
-    requires { ⌜ Valid (generators plan) × ShiftFits shift × Cell largest-level m a block 0 0 × ShapeInverse (generators plan) m a inverse ⌝ }
+    requires { ⌜
+        Valid (generators plan) × ShiftFits (scramble .shift) × Cell largest-level m a block 0 0 × ShapeInverse (generators plan) m a inverse ⌝ }
     requires { ⌜
         AllInside m a (now columns) (now rows) × (length (now columns) ≡ length (now rows)) × (length (now columns) ≡ length (now answers)) ⌝ }
-    ensures { λ _. ⌜ now (answers .exit) ≡ visit-indexes (sequence plan shift) m a block (now (columns .entry)) (now (rows .entry)) ⌝ }
+    ensures { λ _. ⌜ now (answers .exit) ≡ visit-indexes (sequence plan scramble) m a block (now (columns .entry)) (now (rows .entry)) ⌝ }
 {
-    let origin = plain_cell(plan, shift, m, a, 0, 0, block);
-    let base = join(block, word::product(inverse, origin), m);
+    let first = block_cell(plan, m, a, block);
+    let base = join(block, word::product(inverse, first), m);
+    let flips = scramble.flips;
+    let unflipped = flips.none_set();
+    let added = shift_number(scramble.shift, m, a);
     let mut i: usize = 0;
     while i < columns.len() {
-        let cell = join(columns[i], rows[i], m - a);
+        let cell = plain_number_among(scramble, unflipped, added, m, a, columns[i], rows[i]);
         answers[i] = base ^ word::product(inverse, cell);
         i += 1;
     }
@@ -81,6 +89,8 @@ fn put_answers(
 pub fn overview(
     plan: Plan,
     shift: Shift,
+    flips_x: &[u8],
+    flips_y: &[u8],
     level: u32,
     m: u32,
     a: u32,
@@ -91,11 +101,12 @@ pub fn overview(
 ) -> Judgement
     ensures answer { λ r. ⌜
         of-judgement r
-        ≡ then (overview-outcome plan shift level m a block (now (columns .entry)) (now (rows .entry)) (now (answers .entry))) (accepted tt) ⌝ }
+        ≡ then (overview-outcome plan (scramble-of shift (now («flips_x» .entry)) (now («flips_y» .entry))) level m a block
+        (now (columns .entry)) (now (rows .entry)) (now (answers .entry))) (accepted tt) ⌝ }
     ensures answers { λ r. ⌜
         now (answers .exit)
-        ≡ part-left (overview-outcome plan shift level m a block (now (columns .entry)) (now (rows .entry)) (now (answers .entry))) (λ is. is)
-        (now (answers .entry)) ⌝ }
+        ≡ part-left (overview-outcome plan (scramble-of shift (now («flips_x» .entry)) (now («flips_y» .entry))) level m a block
+        (now (columns .entry)) (now (rows .entry)) (now (answers .entry))) (λ is. is) (now (answers .entry)) ⌝ }
 {
     let n = columns.len();
     if n != rows.len() {
@@ -106,7 +117,9 @@ pub fn overview(
     }
     let column = first_or_zero(columns);
     let row = first_or_zero(rows);
-    let judged = judge(level, m, a, column, row, block);
+    let loaded = Flips::load(flips_x, flips_y);
+    let flips_judged = loaded.answer;
+    let judged = judge(flips_judged, level, m, a, column, row, block);
     match judged {
         Judgement::Refused(why) => {
             return Judgement::Refused(why);
@@ -122,6 +135,17 @@ pub fn overview(
         return Judgement::Refused(Refusal::Cell);
     }
     let inverse = found.columns;
-    put_answers(plan, shift, inverse, m, a, block, columns, rows, answers);
+    let flips = loaded.flips;
+    put_answers(
+        plan,
+        Scramble { shift, flips },
+        inverse,
+        m,
+        a,
+        block,
+        columns,
+        rows,
+        answers,
+    );
     Judgement::Accepted
 }

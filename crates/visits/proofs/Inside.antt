@@ -9,10 +9,12 @@ use Rattle.digits.proofs.Two.{one-lt-two}
 use Rattle.net.specs.Sequence.{Fits}
 use Rattle.net.proofs.Columns.{standard-valid}
 use Rattle.net.proofs.Interval.{plain-fits}
-use Rattle.net.proofs.Scrambling.{shift-lawful, scrambled-fits}
+use Rattle.net.proofs.Scrambling.{scrambled-fits}
 use Rattle.refusal.specs.Outcome.{accepted, Test}
+use Rattle.flips.specs.Load.{no-flips}
+use Rattle.flips.proofs.Scrambled.{scrambled-lawful}
 use Rattle.plan.specs.declared.points.Shift.{Shift}
-use Rattle.plan.specs.Pair.{sequence, standard-pair}
+use Rattle.plan.specs.Pair.{only-shift, sequence, standard-pair}
 use Rattle.stage.proofs.Theorem.{theorems}
 use Rattle.region_file.specs.declared.records.Record.{Record}
 use Rattle.region_file.specs.Records.{record-at, reader-field}
@@ -23,13 +25,13 @@ use Rattle.visits.specs.Visits.{record-point, file-visits}
 use Rattle.visits.specs.Theorem.{Among, HasPosition}
 use Rattle.visits.proofs.FileVisits.{visit-iff}
 
-sequence-fits : (s : Shift) → s .x < 2 ^ 32 → s .y < 2 ^ 32 → Fits (sequence standard-pair s)
+sequence-fits : (s : Shift) → s .x < 2 ^ 32 → s .y < 2 ^ 32 → Fits (sequence standard-pair (only-shift s))
 sequence-fits s hx hy =
     scrambled-fits (plain-fits (standard-valid one-lt-two 32 32))
-    (record { x = shift-lawful one-lt-two 32 (s .x) hx; y = shift-lawful one-lt-two 32 (s .y) hy })
+    (record { x = scrambled-lawful (no-flips .x) (s .x) hx; y = scrambled-lawful (no-flips .y) (s .y) hy })
 
 -- the points of a record of a file of bytes are words
-pub record-fits : (file : List ℕ) → Below 256 file → (n : ℕ) → Fits (sequence standard-pair (record-at file n .shift))
+pub record-fits : (file : List ℕ) → Below 256 file → (n : ℕ) → Fits (sequence standard-pair (only-shift (record-at file n .shift)))
 unfolding record-at
 record-fits file bytes n = sequence-fits (record-at file n .shift) (word-lt file bytes _) (word-lt file bytes _)
 

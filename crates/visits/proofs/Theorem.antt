@@ -5,7 +5,11 @@ use mathlib.Core.List.{List, _∷_}
 use Prim.Native.Nat.{ℕ, suc}
 use native.Mathlib.Omega.{arith}
 use lib.ListN.{length}
+use Rattle.digits.proofs.Two.{one-lt-two}
+use Rattle.net.specs.Sequence.{Sequence, point}
+use Rattle.net.proofs.Columns.{standard-valid}
 use Rattle.refusal.proofs.First.{then-same}
+use Rattle.plan.proofs.Theorem as plan
 use Rattle.region_file.specs.Judge.{no-further-tests, judge-outcome}
 use Rattle.visits.specs.declared.file_walks.FileWalk.{FileWalk}
 use Rattle.visits.specs.declared.file_walks.FileStep.{FileStep}
@@ -39,6 +43,7 @@ theorems = record {
   visit-iff = visit-iff;
   once = once;
   fields-inside = fields-inside;
+  without-flips = λ r i. ap (λ (S : Sequence). point S i) (plan.theorems .unflipped (standard-valid one-lt-two 32 32) (r .shift));
   as-before = as-before;
   every-link-counts = λ links few. omega arith;
 }

@@ -8,7 +8,10 @@ use Prim.Native.Nat.{ℕ, zero, suc, _≤_, _<_}
 use lib.Dec.{eqb, ltb}
 use lib.ListN.{length}
 use Rattle.ranges.specs.Below.{Below}
+use Rattle.net.specs.Sequence.{point}
+use Rattle.net.specs.Scrambling.{shifted}
 use Rattle.refusal.specs.Outcome.{accepted, Test}
+use Rattle.plan.specs.Pair.{generators, standard-pair}
 use Rattle.stage.specs.Theorem.{PositionOf}
 use Rattle.region_file.specs.declared.records.Record.{Record}
 use Rattle.region_file.specs.Records.{record-at, reader-field, zeros, most-records}
@@ -79,6 +82,8 @@ pub record Theorems : Type 0 where
   -- of every visit of an accepted file of bytes the whole field lies in the region of its record, at the place that C-12's formula gives
   pub fields-inside : (further : Record → List Test) (file : List ℕ) → Below 256 file → judge-outcome further file ≡ accepted tt
       → (v : FileVisit) → Among v (file-visits file) → HasPosition file v
+  -- a file carries no flips: the points of its visits are those of the standard pair under the record's shift alone, as 01 has them
+  pub without-flips : (r : Record) (i : ℕ) → record-point r i ≡ point (shifted (generators standard-pair) (r .shift .x) (r .shift .y)) i
   -- a file whose bytes 8 to 15 are zero has the visits that it had by 01, or its refusal
   pub as-before : (file : List ℕ) → zeros file 8 8 ≡ true → visits-outcome file ≡ base-visits-outcome file
   -- of a walk that may follow no more links than a file can have records every link counts

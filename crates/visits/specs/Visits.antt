@@ -5,7 +5,7 @@ use Prim.Native.Nat.{ℕ}
 use Rattle.ranges.specs.Range.{range}
 use Rattle.net.specs.Sequence.{point}
 use Rattle.refusal.specs.Outcome.{Outcome, accepted, then}
-use Rattle.plan.specs.Pair.{sequence, standard-pair}
+use Rattle.plan.specs.Pair.{only-shift, sequence, standard-pair}
 use Rattle.stage.specs.declared.regions.Region.{Region}
 use Rattle.stage.specs.declared.regions.Position.{Position}
 use Rattle.stage.specs.Region.{corners, position-in, position-outcome}
@@ -25,7 +25,7 @@ planned file n = let r = record-at file n in with-region r (corners (reader-fiel
 
 -- the point of index i in a record: that of the standard pair under the record's shift
 abbrev pub record-point : Record → ℕ → ℕ × ℕ
-record-point r i = point (sequence standard-pair (r .shift)) i
+record-point r i = point (sequence standard-pair (only-shift (r .shift))) i
 
 -- where the visit with index i of a record lies, the record being read as the planner does
 unfoldable pub position-of : Record → ℕ → Position

@@ -13,31 +13,43 @@ use Rattle.net.specs.Generators.{Valid}
 use Rattle.net.specs.Shape.{Shape, determinant}
 use Rattle.refusal.specs.Outcome.{Outcome, accepted, Test, first}
 use Rattle.refusal.specs.Refusal.{of-judgement}
-use Rattle.refusal.proofs.First.{first-none, first-passes, first-refuses, all-pass}
-use Rattle.plan.specs.Pair.{generators, sequence}
+use Rattle.refusal.proofs.First.{first-none, first-passes, first-refuses, granted-accepted}
+use Rattle.flips.specs.declared.sets.Flips.{Flips}
+use Rattle.flips.specs.Load.{flips-of}
+use Rattle.plan.specs.declared.points.Scramble.{Scramble}
+use Rattle.plan.specs.Pair.{generators, sequence, scramble-of}
 use Rattle.plan.proofs.Laws.{words-valid}
 use Rattle.elimination.specs.Elimination.{ShapeColumns, Inverts}
 use Rattle.elimination.proofs.Shapes.{least-of-kernel, determinant-nonzero, inverse-of-shape}
 use Rattle.stratify.specs.Answers.{query-tests, Cell, ShiftFits}
 use Rattle.stratify.specs.Overview.{others-outside, overview-outcome, visit-indexes}
-use Rattle.stratify.proofs.Outcomes.{cell-of}
+use Rattle.stratify.proofs.Outcomes.{flips-of-tests, cell-passed, cell-of}
 use Rattle.stratify.proofs.Answered.{inside}
 use Rattle.stratify.proofs.Overviewed.{refuses, accepts, rows-differ, answers-differ, tests-refuse, shape-refuses, shape-passes}
 use Rattle.stratify.proofs.overviews.overview.Statement.{statement}
 use Rattle.stratify.proofs.overviews.overview.Tie as tie
 
+-- the bytes lent for flips, and the scramble that they make with the shift
+abbrev lent : tie.Start → Flips
+lent s = flips-of (s .args .flips-x .now) (s .args .flips-y .now)
+
+abbrev scramble : tie.Start → Scramble
+scramble s = scramble-of (s .args .shift) (s .args .flips-x .now) (s .args .flips-y .now)
+
 -- ---- 8
 
 returns : tie.Need-returns
 returns c =
-    let a = c .before .before .before .before .args in
-    refuses (a .answers .now) (rows-differ (a .plan) (a .shift) (a .level) (a .m) (a .a) (a .block) (a .columns .now) (a .rows .now)
+    let s = c .before .before .before .before .before .before in
+    let a = s .args in
+    refuses (a .answers .now) (rows-differ (a .plan) (scramble s) (a .level) (a .m) (a .a) (a .block) (a .columns .now) (a .rows .now)
     (a .answers .now) (c .if1 .taken))
 
 returns-2 : tie.Need-returns-2
 returns-2 c =
-    let a = c .before .before .before .before .before .args in
-    refuses (a .answers .now) (answers-differ (a .plan) (a .shift) (a .level) (a .m) (a .a) (a .block) (a .columns .now) (a .rows .now)
+    let s = c .before .before .before .before .before .before .before in
+    let a = s .args in
+    refuses (a .answers .now) (answers-differ (a .plan) (scramble s) (a .level) (a .m) (a .a) (a .block) (a .columns .now) (a .rows .now)
     (a .answers .now) (c .before .if1 .left) (c .if2 .taken))
 
 -- ---- the tests of the first cell
@@ -48,28 +60,33 @@ first-or-zero-requires c κs = search needs
 first-or-zero-requires-2 : tie.Need-first-or-zero-requires-2
 first-or-zero-requires-2 c κs = search needs
 
+load-requires : tie.Need-load-requires
+load-requires c κs = search needs
+
 judge-requires : tie.Need-judge-requires
 judge-requires c κs = search needs
 
 abbrev tests : tie.Start → List Test
-tests s = let a = s .args in query-tests (a .level) (a .m) (a .a) (a .block) (getD (a .columns .now) 0 0) (getD (a .rows .now) 0 0)
+tests s = let a = s .args in query-tests (lent s) (a .level) (a .m) (a .a) (a .block) (getD (a .columns .now) 0 0) (getD (a .rows .now) 0 0)
 
 -- where the judgement began
 abbrev judged-from : tie.After-judge → tie.Start
-judged-from c = c .before .before .before .before .before .before .before .before
+judged-from c = c .before .before .before .before .before .before .before .before .before .before .before
 
 judged : (c : tie.After-judge) → of-judgement (c .judge .result) ≡ first (tests (judged-from c)) (accepted tt)
 judged c =
-    let a = judged-from c .args in
-    c .judge .ensures ∙ ap₂ (λ (k r : ℕ). first (query-tests (a .level) (a .m) (a .a) (a .block) k r) (accepted tt))
-    (c .before .before .first-or-zero .ensures) (c .before .first-or-zero2 .ensures)
+    let s = judged-from c in
+    let a = s .args in
+    c .judge .ensures (lent s) (c .before .load .ensures .0)
+    ∙ ap₂ (λ (k r : ℕ). first (query-tests (lent s) (a .level) (a .m) (a .a) (a .block) k r) (accepted tt))
+    (c .before .before .before .first-or-zero .ensures) (c .before .before .first-or-zero2 .ensures)
 
 -- past 8 the buffers are equally long
 equal-rows : (c : tie.After-judge) → let a = judged-from c .args in length (a .columns .now) ≡ length (a .rows .now)
-equal-rows c = c .before .before .before .before .if1 .left
+equal-rows c = c .before .before .before .before .before .if1 .left
 
 equal-answers : (c : tie.After-judge) → let a = judged-from c .args in length (a .columns .now) ≡ length (a .answers .now)
-equal-answers c = c .before .before .before .if2 .left
+equal-answers c = c .before .before .before .before .if2 .left
 
 enum-known-judged : tie.Need-enum-known-judged
 enum-known-judged c = search needs
@@ -77,8 +94,9 @@ enum-known-judged c = search needs
 returns-3 : tie.Need-returns-3
 returns-3 c =
     let j = c .before .before .before in
-    let a = judged-from j .args in
-    refuses (a .answers .now) (tests-refuse (a .plan) (a .shift) (a .level) (a .m) (a .a) (a .block) (a .columns .now) (a .rows .now)
+    let s = judged-from j in
+    let a = s .args in
+    refuses (a .answers .now) (tests-refuse (a .plan) (scramble s) (a .level) (a .m) (a .a) (a .block) (a .columns .now) (a .rows .now)
     (a .answers .now) (equal-rows j) (equal-answers j) (sym (judged j) ∙ ap of-judgement (c .before .judged .given .1)))
 
 enum-told : tie.Need-enum-told
@@ -106,7 +124,12 @@ module _ (c : tie.After-enum-told) where
   passed = sym (judged (c .before .before)) ∙ ap of-judgement (c .enum-told .given .1)
 
   first-cell : Cell 32 (s .args .m) (s .args .a) (s .args .block) (getD (s .args .columns .now) 0 0) (getD (s .args .rows .now) 0 0)
-  first-cell = cell-of (s .args .level) (s .args .m) (s .args .a) (s .args .block) _ _ passed
+  first-cell = cell-of (lent s) (s .args .level) (s .args .m) (s .args .a) (s .args .block) _ _ passed
+
+  -- the flips that were loaded are those that were lent
+  are : c .before .before .before .load .result .flips ≡ lent s
+  are = c .before .before .before .load .ensures .1 ∙ granted-accepted _ _ (flips-of-tests (lent s) (s .args .level) (s .args .m) (s .args .a)
+      (s .args .block) _ _ passed)
 
   shape : Shape (generators (s .args .plan)) (s .args .m) (s .args .a)
   shape = record { valid = valid s; wide = first-cell .wide; fits = first-cell .size }
@@ -136,8 +159,9 @@ returns-4 c =
     let e = c .before in
     let t = e .before .before in
     let j = t .before .before in
-    let a = judged-from j .args in
-    refuses (a .answers .now) (shape-refuses (a .plan) (a .shift) (a .level) (a .m) (a .a) (a .block) (a .columns .now) (a .rows .now)
+    let s = judged-from j in
+    let a = s .args in
+    refuses (a .answers .now) (shape-refuses (a .plan) (scramble s) (a .level) (a .m) (a .a) (a .block) (a .columns .now) (a .rows .now)
     (a .answers .now) (equal-rows j) (equal-answers j) (passed t) (shape t) (e .invert .result .kernel)
     (least-of-kernel (shape t) (columns e) (inverts e .kernel-is) (c .if3 .taken)))
 
@@ -150,28 +174,29 @@ odd : (c : tie.Else3) → let a = inverted-from (c .before) .args in determinant
 odd c = determinant-nonzero (shape (c .before .before .before)) (columns (c .before)) (inverts (c .before) .kernel-is) (no-kernel c)
 
 -- what is left of the outcome: 6 of the later cells, or all answers
-left : (c : tie.Else3) → let a = inverted-from (c .before) .args in
-    overview-outcome (a .plan) (a .shift) (a .level) (a .m) (a .a) (a .block) (a .columns .now) (a .rows .now) (a .answers .now)
+left : (c : tie.Else3) → let s = inverted-from (c .before) in let a = s .args in
+    overview-outcome (a .plan) (scramble s) (a .level) (a .m) (a .a) (a .block) (a .columns .now) (a .rows .now) (a .answers .now)
     ≡ first (others-outside (a .m) (a .a) (a .columns .now) (a .rows .now) ∷ [])
-    (accepted (visit-indexes (sequence (a .plan) (a .shift)) (a .m) (a .a) (a .block) (a .columns .now) (a .rows .now)))
+    (accepted (visit-indexes (sequence (a .plan) (scramble s)) (a .m) (a .a) (a .block) (a .columns .now) (a .rows .now)))
 left c =
     let t = c .before .before .before in
     let j = t .before .before in
-    let a = judged-from j .args in
-    shape-passes (a .plan) (a .shift) (a .level) (a .m) (a .a) (a .block) (a .columns .now) (a .rows .now) (a .answers .now)
+    let s = judged-from j in
+    let a = s .args in
+    shape-passes (a .plan) (scramble s) (a .level) (a .m) (a .a) (a .block) (a .columns .now) (a .rows .now) (a .answers .now)
     (equal-rows j) (equal-answers j) (passed t) (odd c)
 
 -- every cell is judged before an answer is written
 put-answers-requires : tie.Need-put-answers-requires
 put-answers-requires c κs =
-    let g : tie.Else4 = c .before .before in
+    let g : tie.Else4 = c .before .before .before in
     let e = g .before .before in
     let t = e .before .before .before in
     let j = t .before .before in
     let s = judged-from j in
     let a = s .args in
     let f = first-cell t in
-    let six = all-pass (accepted tt) (tests s) (passed t) .0 .1 .1 .1 .0 in (
+    let six = cell-passed (lent s) (a .level) (a .m) (a .a) (a .block) _ _ (passed t) in (
       (
         valid s,
         shift-fits s,
@@ -202,10 +227,14 @@ same-length c = search needs
 returns-6 : tie.Need-returns-6
 returns-6 c =
     let p = c .before .before in
-    let g = p .before .before .before in
+    let g = p .before .before .before .before in
     let e = g .before .before in
-    accepts (inverted-from (e .before) .args .answers .now)
-    (left e ∙ first-passes _ 6 [] (sym (g .before .others-outside .ensures) ∙ g .if4 .left) ∙ first-none _) (p .put-answers .ensures)
+    let s = inverted-from (e .before) in
+    let a = s .args in
+    accepts (a .answers .now)
+    (left e ∙ first-passes _ 6 [] (sym (g .before .others-outside .ensures) ∙ g .if4 .left) ∙ first-none _)
+    (p .put-answers .ensures ∙ ap (λ (f : Flips). visit-indexes (sequence (a .plan) (record { shift = a .shift; flips = f })) (a .m) (a .a) (a .block)
+    (a .columns .now) (a .rows .now)) (are (e .before .before .before)))
 
 pub overview-spec : {M : Type 1} → statement M
 overview-spec =
@@ -215,6 +244,7 @@ overview-spec =
     returns-2
     first-or-zero-requires
     first-or-zero-requires-2
+    load-requires
     judge-requires
     enum-known-judged
     returns-3

@@ -24,32 +24,36 @@ shape s = record { valid = s .pre .0; wide = s .pre .2 .wide; fits = s .pre .2 .
 
 -- an index of the block lies in the cell
 abbrev Lies : tie.Start → ℕ → Type 0
-Lies s i = let a = s .args in VisitIn (sequence (a .plan) (a .shift)) (a .m) (a .a) (a .block) (a .column) (a .row) i
+Lies s i = let a = s .args in VisitIn (sequence (a .plan) (a .scramble)) (a .m) (a .a) (a .block) (a .column) (a .row) i
 
 no-kernel : (c : tie.Else1) → c .before .eliminate .result .kernel ≡ 0
 no-kernel c = omega arith
 
 -- the columns are those of the shape, and the elimination is over them
-columns : (c : tie.After-eliminate) → let s = c .before .before .before in
+columns : (c : tie.After-eliminate) → let s = c .before .before .before .before in
     ShapeColumns (generators (s .args .plan)) (s .args .m) (s .args .a) (c .before .shape-columns .result)
-columns c = let q = c .before .before .before .pre .2 in c .before .shape-columns .ensures .shape (q .wide) (q .size)
+columns c = let q = c .before .before .before .before .pre .2 in c .before .shape-columns .ensures .shape (q .wide) (q .size)
 
-kernel : (c : tie.After-eliminate) → KernelIs (c .before .shape-columns .result) (c .before .before .before .args .m) (c .eliminate .result .kernel)
-kernel c = c .eliminate .ensures .within (c .before .before .before .pre .2 .size) .kernel-is
+kernel : (c : tie.After-eliminate) → KernelIs (c .before .shape-columns .result) (c .before .before .before .before .args .m) (c .eliminate .result .kernel)
+kernel c = c .eliminate .ensures .within (c .before .before .before .before .pre .2 .size) .kernel-is
 
 -- the index that comes back is the only one
-only : (c : tie.Else1) → let s = c .before .before .before .before in
+only : (c : tie.Else1) → let s = c .before .before .before .before .before in
     Only (Lies s) (s .args .block * 2 ^ s .args .m + c .before .eliminate .result .index)
 only c =
-    let s = c .before .before .before .before in
+    let s = c .before .before .before .before .before in
     let a = s .args in
     let q = s .pre .2 in
     let e = c .before .eliminate in
-    answer (shape s) (a .shift .x) (a .shift .y) (s .pre .1 .x) (s .pre .1 .y) (a .block) (a .column) (a .row) (q .column) (q .row)
-    (columns (c .before)) (e .result .index) (rw (no-kernel c, c .before .before .before .plain-cell .ensures) at (e .ensures .within (q .size)))
+    let numbers = c .before .before .before in
+    answer (shape s) (a .scramble) (s .pre .1) (a .block) (a .column) (a .row) (q .column) (q .row) (columns (c .before)) (e .result .index)
+    (rw (no-kernel c, numbers .before .plain-number .ensures, numbers .block-cell .ensures) at (e .ensures .within (q .size)))
 
-plain-cell-requires : tie.Need-plain-cell-requires
-plain-cell-requires c κs = c .pre
+plain-number-requires : tie.Need-plain-number-requires
+plain-number-requires c κs = let q = c .pre .2 in (q .wide, q .size, q .column, q .row)
+
+block-cell-requires : tie.Need-block-cell-requires
+block-cell-requires c κs = let s = c .before in let q = s .pre .2 in (s .pre .0, q .wide, q .size, q .block)
 
 shape-columns-requires : tie.Need-shape-columns-requires
 shape-columns-requires c κs = search needs
@@ -59,17 +63,17 @@ eliminate-requires c κs = search needs
 
 returns : tie.Need-returns
 returns c =
-    let s = c .before .before .before .before in
+    let s = c .before .before .before .before .before in
     let a = s .args in
     sym (ap (of-location (a .m) (a .a))
-    (locate-bad-shape (generators (a .plan)) (scrambling (a .shift)) (a .m) (a .a) (a .block) (a .column) (a .row) (shape s) two
+    (locate-bad-shape (generators (a .plan)) (scrambling (a .scramble)) (a .m) (a .a) (a .block) (a .column) (a .row) (shape s) two
     (c .before .eliminate .result .kernel) (least-of-kernel (shape s) (columns (c .before)) (kernel (c .before)) (c .if1 .taken))))
 
 -- and it is a word
-fits : (c : tie.Else1) → let s = c .before .before .before .before in
+fits : (c : tie.Else1) → let s = c .before .before .before .before .before in
     s .args .block * 2 ^ s .args .m + c .before .eliminate .result .index < 2 ^ 32
 fits c =
-    let s = c .before .before .before .before in
+    let s = c .before .before .before .before .before in
     let q = s .pre .2 in
     let below = only c .holds .in-block .below in
     block-lt one-lt-two 32 (s .args .m) (s .args .block) (c .before .eliminate .result .index) (q .size) (q .block) (omega arith)
@@ -80,12 +84,12 @@ join-requires c κs = search needs
 returns-2 : tie.Need-returns-2
 returns-2 c =
     let d = c .before in
-    let s = d .before .before .before .before in
+    let s = d .before .before .before .before .before in
     let a = s .args in
     let odd = determinant-nonzero (shape s) (columns (d .before)) (kernel (d .before)) (no-kernel d) in
     sym (ap (of-location (a .m) (a .a))
-    (locate-found (generators (a .plan)) (scrambling (a .shift)) (a .m) (a .a) (a .block) (a .column) (a .row)
+    (locate-found (generators (a .plan)) (scrambling (a .scramble)) (a .m) (a .a) (a .block) (a .column) (a .row)
     (c .join .result) odd (subst (Only (Lies s)) (sym (joined-whole _ _ _ (c .join .ensures) (fits d))) (only d))))
 
 pub find-spec : {M : Type 1} → statement M
-find-spec = tie.close (tie.spec plain-cell-requires shape-columns-requires eliminate-requires returns join-requires returns-2)
+find-spec = tie.close (tie.spec plain-number-requires block-cell-requires shape-columns-requires eliminate-requires returns join-requires returns-2)
