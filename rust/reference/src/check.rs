@@ -96,7 +96,6 @@ pub(crate) fn reduce(equations: &mut [Equation]) -> Option<u32> {
 #[cfg(test)]
 mod tests {
     use super::*;
-    use crate::pair::NO_SHIFT;
     use crate::query::lies_in;
     use crate::random::Random;
 
@@ -119,7 +118,7 @@ mod tests {
     /// The definition of j, by looking at every index.
     fn j_by_search(pair: &Pair, m: u32, a: u32) -> Option<u32> {
         let last = ((1u64 << m) - 1) as u32;
-        (1..=last).find(|&i| lies_in(pair.point(i, NO_SHIFT), m, a, 0, 0))
+        (1..=last).find(|&i| lies_in(pair.product(i), m, a, 0, 0))
     }
 
     #[test]
@@ -227,7 +226,7 @@ mod tests {
             pair.x[c] = pair.x[(c + 1) % 32];
             for a in 0..=32 {
                 if let Some(j) = smallest_shared_index(&pair, 32, a) {
-                    assert!(lies_in(pair.point(j, NO_SHIFT), 32, a, 0, 0));
+                    assert!(lies_in(pair.product(j), 32, a, 0, 0));
                     assert!(columns_are_independent(&pair, a, 31 - j.leading_zeros()));
                     shared += 1;
                 } else {

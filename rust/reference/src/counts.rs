@@ -81,7 +81,8 @@ pub fn row(n: u64, bounds: impl Fn(u64, u32) -> (u64, u64)) -> String {
 #[cfg(test)]
 mod tests {
     use super::*;
-    use crate::pair::{Pair, Shift, NO_SHIFT};
+    use crate::flips::Scramble;
+    use crate::pair::{Pair, NO_SHIFT};
     use crate::query::lies_in;
     use crate::random::Random;
 
@@ -89,14 +90,18 @@ mod tests {
 
     /// The points of the n indexes from `start` on. The indexes are counted in
     /// the longer number, because the end may be 2^32.
-    fn points(shift: Shift, start: u64, n: u64) -> Vec<Point> {
+    fn points(scramble: Scramble<'_>, start: u64, n: u64) -> Vec<Point> {
         let standard = Pair::standard();
-        (start..start + n).map(|index| standard.point(index as u32, shift)).collect()
+        (start..start + n).map(|index| standard.point(index as u32, scramble).unwrap()).collect()
     }
 
-    /// The count of one cell of the standard pair without a shift.
+    fn plain() -> Scramble<'static> {
+        Scramble::of_shift(NO_SHIFT)
+    }
+
+    /// The count of one cell of the standard pair without a scramble.
     fn count(start: u64, n: u64, (m, a): (u32, u32), (column, row): (u32, u32)) -> u64 {
-        cell_counts(&points(NO_SHIFT, start, n), m, a)[place(column, row, m - a)]
+        cell_counts(&points(plain(), start, n), m, a)[place(column, row, m - a)]
     }
 
     /// Every shape of a size up to `largest`.
@@ -171,7 +176,7 @@ mod tests {
     /// The places rise by rows first. Index 5 has 0xA0000000 and 0x20000000.
     #[test]
     fn columns_and_rows_are_not_exchanged() {
-        let visits = points(NO_SHIFT, 5, 1);
+        let visits = points(plain(), 5, 1);
         assert_eq!(cell_counts(&visits, 3, 0), [0, 1, 0, 0, 0, 0, 0, 0]);
         assert_eq!(cell_counts(&visits, 3, 1), [0, 0, 0, 0, 1, 0, 0, 0]);
         assert_eq!(cell_counts(&visits, 3, 3), [0, 0, 0, 0, 0, 1, 0, 0]);
@@ -220,7 +225,7 @@ mod tests {
         assert_eq!(count_bounds(64, 4), (3, 5));
         assert_eq!(count(1, 64, (4, 2), (0, 0)), 3);
         assert_eq!(count(1, 64, (4, 2), (0, 2)), 5);
-        assert!(cell_counts(&points(NO_SHIFT, 0, 64), 4, 2).iter().all(|&count| count == 4));
+        assert!(cell_counts(&points(plain(), 0, 64), 4, 2).iter().all(|&count| count == 4));
     }
 
     /// A cell of a block larger than n may be missed and may be met twice.
@@ -234,7 +239,7 @@ mod tests {
     /// The bounds hold for every shape of a size, and a shape need not meet them.
     #[test]
     fn five_of_50_visits_are_not_met_in_squares() {
-        let visits = points(NO_SHIFT, 0, 4_095 + 50);
+        let visits = points(plain(), 0, 4_095 + 50);
         let starts = visits.windows(50);
         assert_eq!(starts.len(), 4_096);
         let largest = starts.flat_map(|from_start| cell_counts(from_start, 4, 2)).max();
@@ -242,29 +247,31 @@ mod tests {
     }
 
     /// The starts are first indexes of blocks, the ones before and behind them,
-    /// and random ones; the last ones end at the last index.
+    /// and random ones; the last ones end at the last index. Flips leave each cell
+    /// one visit in each block, so the bounds hold under them as well.
     #[test]
     fn no_cell_of_the_standard_pair_leaves_the_bounds() {
         let mut random = Random::from_seed(1_515);
-        let shifts = [NO_SHIFT, random.shift(), random.shift(), random.shift()];
-        for shift in shifts {
+        let shifted = Scramble::of_shift(random.shift());
+        let flipped = [random.scramble(), random.scramble()];
+        for scramble in [plain(), shifted, flipped[0].lent(), flipped[1].lent()] {
             for n in [1, 2, 15, 16, 17, 50, 64, 100, 255, 256, 257, 600] {
                 let anywhere = u64::from(random.word() >> 1);
                 for start in [0, 1, 255, 463, 0x8000_0000, anywhere, ALL_INDEXES - n] {
-                    hold_all_cells_to_the_bounds(shift, start, n);
+                    hold_all_cells_to_the_bounds(scramble, start, n);
                 }
             }
         }
     }
 
-    fn hold_all_cells_to_the_bounds(shift: Shift, start: u64, n: u64) {
-        let visits = points(shift, start, n);
+    fn hold_all_cells_to_the_bounds(scramble: Scramble<'_>, start: u64, n: u64) {
+        let visits = points(scramble, start, n);
         for (m, a) in shapes(8) {
             let counts = cell_counts(&visits, m, a);
             assert_eq!(counts.iter().sum::<u64>(), n);
             for (least, most) in [count_bounds(n, m), count_bounds_from(start, n, m)] {
                 let inside = counts.iter().all(|count| (least..=most).contains(count));
-                assert!(inside, "shift {shift:?}, start {start}, n {n}, shape ({m}, {a})");
+                assert!(inside, "{scramble:?}, start {start}, n {n}, shape ({m}, {a})");
             }
         }
     }

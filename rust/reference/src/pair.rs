@@ -1,5 +1,6 @@
 //! A pair of generator matrices, its points, and the standard pair.
 
+use crate::flips::Scramble;
 use crate::refusal::Refusal;
 
 /// Two generator matrices of 32 columns. Column c belongs to index bit c;
@@ -19,6 +20,13 @@ pub struct Shift {
 
 /// The shift that changes nothing.
 pub const NO_SHIFT: Shift = Shift { x: 0, y: 0 };
+
+impl Shift {
+    /// The point moved by the shift; moved again, it is back.
+    pub(crate) fn added_to(self, point: Point) -> Point {
+        Point { x: point.x ^ self.x, y: point.y ^ self.y }
+    }
+}
 
 #[derive(Clone, Copy, Debug, PartialEq, Eq)]
 pub struct Point {
@@ -64,15 +72,27 @@ impl Pair {
         pair
     }
 
-    /// The point of an index.
-    pub fn point(&self, index: u32, shift: Shift) -> Point {
-        Point { x: coordinate(&self.x, index, shift.x), y: coordinate(&self.y, index, shift.y) }
+    /// Refusals 17 and 18, in this order; otherwise the point of an index.
+    pub fn point(&self, index: u32, scramble: Scramble<'_>) -> Result<Point, Refusal> {
+        scramble.judge()?;
+        Ok(scramble.scrambled(self.product(index)))
+    }
+
+    /// The point of an index with a shift and no flips, as region files have it;
+    /// there is nothing to refuse.
+    pub fn shifted_point(&self, index: u32, shift: Shift) -> Point {
+        shift.added_to(self.product(index))
+    }
+
+    /// The point of an index before any flip and shift.
+    pub fn product(&self, index: u32) -> Point {
+        Point { x: product(&self.x, index), y: product(&self.y, index) }
     }
 }
 
-/// The exclusive or of the columns whose index bit is set, and of the shift.
-pub fn coordinate(columns: &[u32; 32], index: u32, shift: u32) -> u32 {
-    let mut word = shift;
+/// The exclusive or of the columns whose index bit is set.
+fn product(columns: &[u32; 32], index: u32) -> u32 {
+    let mut word = 0;
     for (c, column) in columns.iter().enumerate() {
         if (index >> c) & 1 == 1 {
             word ^= column;
@@ -81,15 +101,17 @@ pub fn coordinate(columns: &[u32; 32], index: u32, shift: u32) -> u32 {
     word
 }
 
-/// The point of the standard pair without its matrices: X is the reversed
-/// index, and Y follows from X by the five steps of listing 19.
-pub fn fast_standard_point(index: u32, shift: Shift) -> Point {
+/// Refusals 17 and 18, in this order; otherwise the point of the standard pair
+/// without its matrices: X is the reversed index, and Y follows from X by the
+/// five steps of listing 19. Flips and shift come behind, as in the matrix way.
+pub fn fast_standard_point(index: u32, scramble: Scramble<'_>) -> Result<Point, Refusal> {
+    scramble.judge()?;
     let x = index.reverse_bits();
     let mut y = x;
     for (width, mask) in PASCAL_STEPS {
         y ^= (y & mask) << width;
     }
-    Point { x: x ^ shift.x, y: y ^ shift.y }
+    Ok(scramble.scrambled(Point { x, y }))
 }
 
 /// The bit of row r within a column, for r from 0 to 31.
@@ -114,6 +136,7 @@ fn binomials() -> [[u32; 32]; 32] {
 #[cfg(test)]
 mod tests {
     use super::*;
+    use crate::flips::{flip, random_scramble, refused};
     use crate::random::Random;
 
     #[test]
@@ -165,19 +188,89 @@ mod tests {
             (5, 0xA000_0000, 0x2000_0000),
         ];
         for (index, x, y) in known {
-            assert_eq!(pair.point(index, NO_SHIFT), Point { x, y });
-            assert_eq!(fast_standard_point(index, NO_SHIFT), Point { x, y });
+            let plain = Scramble::of_shift(NO_SHIFT);
+            assert_eq!(pair.point(index, plain), Ok(Point { x, y }));
+            assert_eq!(fast_standard_point(index, plain), Ok(Point { x, y }));
+            assert_eq!(pair.product(index), Point { x, y });
         }
     }
 
     #[test]
     fn shift_is_added_last() {
         let shift = Shift { x: 0x1234_5678, y: 0x9ABC_DEF0 };
-        let point = Pair::standard().point(3, shift);
-        assert_eq!(point, Point { x: 0xD234_5678, y: 0xDABC_DEF0 });
+        let point = Point { x: 0xD234_5678, y: 0xDABC_DEF0 };
+        assert_eq!(Pair::standard().point(3, Scramble::of_shift(shift)), Ok(point));
+        assert_eq!(Pair::standard().shifted_point(3, shift), point);
     }
 
-    /// Both ways are linear, so the 32 single bits alone would settle it;
+    /// The product of index 3 is 0xC0000000 and 0x40000000. Flip bits 0 and 2 take
+    /// both ones from x; flip bit 4 is for words that begin with 01, as y does.
+    #[test]
+    fn known_points_under_flips() {
+        let (mut flips_x, mut flips_y) = ([0; 32], [0; 32]);
+        (flips_x[0], flips_y[0]) = (0b0000_0101, 0b0001_0000);
+        let shift = Shift { x: 0x1234_5678, y: 0x9ABC_DEF0 };
+        let scramble = Scramble { shift, flips_x: &flips_x, flips_y: &flips_y };
+        let point = Ok(Point { x: 0x1234_5678, y: 0xFABC_DEF0 });
+        assert_eq!(Pair::standard().point(3, scramble), point);
+        assert_eq!(fast_standard_point(3, scramble), point);
+        let exchanged = Scramble { shift, flips_x: &flips_y, flips_y: &flips_x };
+        let point = Ok(Point { x: 0xD234_5678, y: 0x5ABC_DEF0 });
+        assert_eq!(Pair::standard().point(3, exchanged), point);
+        assert_eq!(fast_standard_point(3, exchanged), point);
+    }
+
+    /// The point of document 01, before there were flips: the exclusive or of
+    /// the columns whose index bit is set, and then of the shift.
+    fn point_of_01(pair: &Pair, index: u32, shift: Shift) -> Point {
+        let along = |columns: &[u32; 32], shift: u32| {
+            let set = (0..32).filter(|&c| index & (1 << c) != 0);
+            set.map(|c: usize| columns[c]).fold(0, |word, column| word ^ column) ^ shift
+        };
+        Point { x: along(&pair.x, shift.x), y: along(&pair.y, shift.y) }
+    }
+
+    #[test]
+    fn zero_flips_give_the_old_point() {
+        let mut random = Random::from_seed(1);
+        for turn in 0..10_000 {
+            let (pair, index, shift) = (random.pair(turn), random.word(), random.shift());
+            let old = point_of_01(&pair, index, shift);
+            assert_eq!(pair.point(index, Scramble::of_shift(shift)), Ok(old));
+            let zeros = vec![0; 32];
+            let lent = Scramble { shift, flips_x: &zeros, flips_y: &zeros };
+            assert_eq!(pair.point(index, lent), Ok(old));
+            assert_eq!(pair.shifted_point(index, shift), old);
+        }
+    }
+
+    /// The old points of no shift are the products, before any flip.
+    #[test]
+    fn flips_come_between_product_and_shift() {
+        let mut random = Random::from_seed(2);
+        for turn in 0..10_000 {
+            let (pair, index, scramble) = (random.pair(turn), random.word(), random.scramble());
+            let product = point_of_01(&pair, index, NO_SHIFT);
+            assert_eq!(pair.product(index), product);
+            let x = flip(product.x, &scramble.flips_x) ^ scramble.shift.x;
+            let y = flip(product.y, &scramble.flips_y) ^ scramble.shift.y;
+            assert_eq!(pair.point(index, scramble.lent()), Ok(Point { x, y }));
+        }
+    }
+
+    #[test]
+    fn refused_flips_refuse_the_point() {
+        for (scramble, number) in refused::all() {
+            for index in [0, 1, u32::MAX] {
+                let point = Pair::standard().point(index, scramble);
+                assert_eq!(point.map_err(Refusal::number), Err(number));
+                let point = fast_standard_point(index, scramble);
+                assert_eq!(point.map_err(Refusal::number), Err(number));
+            }
+        }
+    }
+
+    /// Both products are linear, so the 32 single bits alone would settle it;
     /// the many other indexes confirm that.
     #[test]
     fn fast_point_equals_matrix_way() {
@@ -187,8 +280,12 @@ mod tests {
         let some = (0..100_000).map(|_| random.word());
         let ends = [u32::MAX, u32::MAX - 1];
         for index in (0..1 << 16).chain(single_bits).chain(some).chain(ends) {
-            let shift = Shift { x: index.wrapping_mul(3), y: !index };
-            assert_eq!(fast_standard_point(index, shift), pair.point(index, shift));
+            let owned = random_scramble(u64::from(index));
+            for scramble in [owned.lent(), Scramble::of_shift(owned.shift)] {
+                let point = pair.point(index, scramble);
+                assert!(point.is_ok());
+                assert_eq!(fast_standard_point(index, scramble), point);
+            }
         }
     }
 }

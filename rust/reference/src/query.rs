@@ -1,7 +1,8 @@
 //! The cell query: the one index of a block whose point lies in a cell.
 
 use crate::check::{judge_level, reduce, shape_equations};
-use crate::pair::{Pair, Shift};
+use crate::flips::Scramble;
+use crate::pair::{Pair, Point};
 use crate::refusal::Refusal;
 
 /// A cell of the shape (m, a) and the block to look in.
@@ -14,17 +15,26 @@ pub struct Query {
     pub block: u32,
 }
 
-/// Refusals 2, 4, 5, 6, 7 and 3, in this order; otherwise the index.
-pub fn query(pair: &Pair, shift: Shift, level: u32, query: Query) -> Result<u32, Refusal> {
-    judge_query(level, query)?;
-    let Query { m, a, column, row, block } = query;
+/// Refusals 2, 17, 18, 4, 5, 6, 7 and 3, in this order; otherwise the index.
+pub fn query(
+    pair: &Pair,
+    scramble: Scramble<'_>,
+    level: u32,
+    query: Query,
+) -> Result<u32, Refusal> {
+    judge_query(scramble, level, query)?;
+    let Query { m, a, block, .. } = query;
     // At m 32 the only block is 0, so the cut to 32 bits loses nothing.
     let base = (u64::from(block) << m) as u32;
-    // The lower m index bits must carry the block's first point into the
-    // cell; the differing bits, top one first, are the right sides.
-    let first = pair.point(base, shift);
-    let x_change = top_bits(first.x, a) ^ column;
-    let y_change = top_bits(first.y, m - a) ^ row;
+    // The top bits of a point follow from as many top bits of its product, and
+    // these from them. So a visit lies in the cell just when its product lies in
+    // the cell that this one is without the scramble.
+    let cell = scramble.unscrambled(corner(query));
+    // The lower m index bits must carry the product of the block's first index
+    // there; the differing bits, top one first, are the right sides.
+    let first = pair.product(base);
+    let x_change = top_bits(first.x, a) ^ top_bits(cell.x, a);
+    let y_change = top_bits(first.y, m - a) ^ top_bits(cell.y, m - a);
     let mut equations = shape_equations(pair, m, a);
     let changes = bits_from_top(x_change, a).chain(bits_from_top(y_change, m - a));
     for (equation, right) in equations.iter_mut().zip(changes) {
@@ -37,19 +47,25 @@ pub fn query(pair: &Pair, shift: Shift, level: u32, query: Query) -> Result<u32,
     Ok(bits.fold(base, |index, (c, equation)| index | u32::from(equation.right) << c))
 }
 
-/// Refusals 2, 4, 5, 6 and 7. The bounds reach 2^32, hence 64 bits.
-fn judge_query(level: u32, query: Query) -> Result<(), Refusal> {
+/// Refusals 2, 17, 18, 4, 5, 6 and 7. The bounds reach 2^32, hence 64 bits.
+fn judge_query(scramble: Scramble<'_>, level: u32, query: Query) -> Result<(), Refusal> {
     let Query { m, a, column, row, block } = query;
-    judge_shape(level, m, a)?;
+    judge_shape(scramble, level, m, a)?;
     if u64::from(column) >= 1u64 << a || u64::from(row) >= 1u64 << (m - a) {
         return Err(Refusal::Cell);
     }
     judge_block(m, block)
 }
 
-/// Refusals 2, 4 and 5, which are the same for every cell of a shape.
-pub(crate) fn judge_shape(level: u32, m: u32, a: u32) -> Result<(), Refusal> {
+/// Refusals 2, 17, 18, 4 and 5, which are the same for every cell of a shape.
+pub(crate) fn judge_shape(
+    scramble: Scramble<'_>,
+    level: u32,
+    m: u32,
+    a: u32,
+) -> Result<(), Refusal> {
     judge_level(level)?;
+    scramble.judge()?;
     if m > level {
         return Err(Refusal::SizeAboveLevel);
     }
@@ -67,6 +83,14 @@ pub(crate) fn judge_block(m: u32, block: u32) -> Result<(), Refusal> {
     Ok(())
 }
 
+/// The first point of a cell that is judged already: its column and its row at
+/// the top, and zeros under them. A shift by 32 needs the longer number.
+fn corner(query: Query) -> Point {
+    let x = u64::from(query.column) << (32 - query.a);
+    let y = u64::from(query.row) << (32 - (query.m - query.a));
+    Point { x: x as u32, y: y as u32 }
+}
+
 /// The top bits of a word as a number; none of the bits means 0.
 pub(crate) fn top_bits(word: u32, count: u32) -> u32 {
     (u64::from(word) >> (32 - count)) as u32
@@ -79,18 +103,26 @@ fn bits_from_top(number: u32, count: u32) -> impl Iterator<Item = bool> {
 
 /// Whether a point lies in a cell of (m, a); for the tests.
 #[cfg(test)]
-pub(crate) fn lies_in(point: crate::pair::Point, m: u32, a: u32, column: u32, row: u32) -> bool {
+pub(crate) fn lies_in(point: Point, m: u32, a: u32, column: u32, row: u32) -> bool {
     top_bits(point.x, a) == column && top_bits(point.y, m - a) == row
 }
 
 #[cfg(test)]
 mod tests {
     use super::*;
-    use crate::pair::NO_SHIFT;
+    use crate::flips::refused::{under_17, under_18};
+    use crate::flips::NO_FLIPS;
+    use crate::pair::{Shift, NO_SHIFT};
     use crate::random::Random;
 
+    const ZERO: Pair = Pair { x: [0; 32], y: [0; 32] };
+
+    fn plain() -> Scramble<'static> {
+        Scramble::of_shift(NO_SHIFT)
+    }
+
     fn ask(level: u32, fields: [u32; 5]) -> Result<u32, Refusal> {
-        query(&Pair::standard(), NO_SHIFT, level, from_fields(fields))
+        query(&Pair::standard(), plain(), level, from_fields(fields))
     }
 
     fn from_fields([m, a, column, row, block]: [u32; 5]) -> Query {
@@ -101,9 +133,25 @@ mod tests {
     fn known_answers() {
         assert_eq!(ask(2, [2, 1, 1, 0, 0]), Ok(3));
         assert_eq!(ask(2, [2, 1, 1, 0, 1]), Ok(5));
-        let shift = Shift { x: 0x8000_0000, y: 0 };
+        let shifted = Scramble::of_shift(Shift { x: 0x8000_0000, y: 0 });
         let cell = from_fields([2, 1, 1, 0, 0]);
-        assert_eq!(query(&Pair::standard(), shift, 2, cell), Ok(0));
+        assert_eq!(query(&Pair::standard(), shifted, 2, cell), Ok(0));
+    }
+
+    /// Flip bit 1 exchanges the columns 0 and 1 of four and leaves the others.
+    /// The columns of the indexes 0 to 3 are 0, 2, 1 and 3 without it. The relation
+    /// of demand 3 to the plain run does not hold here: the first visit's column
+    /// added to column 2 leads to index 3 there, and column 2 has index 1.
+    #[test]
+    fn known_answers_under_flips() {
+        let mut flips_x = NO_FLIPS;
+        flips_x[0] = 2;
+        let flipped = Scramble { shift: NO_SHIFT, flips_x: &flips_x, flips_y: &NO_FLIPS };
+        let standard = Pair::standard();
+        let found = |column| query(&standard, flipped, 2, from_fields([2, 2, column, 0, 0]));
+        assert_eq!([0, 1, 2, 3].map(found), [Ok(2), Ok(0), Ok(1), Ok(3)]);
+        let u = top_bits(standard.point(0, flipped).unwrap().x, 2);
+        assert_eq!(ask(2, [2, 2, 2 ^ u, 0, 0]), Ok(3));
     }
 
     /// The second wrong turn: the plain answer 3 plus the base of block 1 is
@@ -111,15 +159,16 @@ mod tests {
     #[test]
     fn block_base_is_not_just_added() {
         assert_eq!(ask(2, [2, 1, 1, 1, 1]), Ok(7));
-        assert!(lies_in(Pair::standard().point(7, NO_SHIFT), 2, 1, 1, 1));
+        assert!(lies_in(Pair::standard().product(7), 2, 1, 1, 1));
     }
 
     #[test]
     fn size_zero_gives_the_block() {
-        let zero = Pair { x: [0; 32], y: [0; 32] };
+        let flipped = Random::from_seed(0).scramble();
         for block in [0, 1, 5, u32::MAX] {
             let cell = from_fields([0, 0, 0, 0, block]);
-            assert_eq!(query(&zero, NO_SHIFT, 1, cell), Ok(block));
+            assert_eq!(query(&ZERO, plain(), 1, cell), Ok(block));
+            assert_eq!(query(&ZERO, flipped.lent(), 1, cell), Ok(block));
         }
     }
 
@@ -136,21 +185,56 @@ mod tests {
         assert_eq!(ask(32, [32, 1, 0, 0, 1]), Err(Refusal::Block));
     }
 
+    /// In every line each later refusal is due too.
     #[test]
     fn refusals_come_in_order() {
         let most = u32::MAX;
-        let zero = Pair { x: [0; 32], y: [0; 32] };
+        let number = |scramble, level, fields| {
+            let answer = query(&ZERO, scramble, level, from_fields(fields));
+            answer.map_err(Refusal::number)
+        };
+        for scramble in under_17().into_iter().chain(under_18()) {
+            assert_eq!(number(scramble, 33, [most; 5]), Err(2));
+            assert_eq!(number(scramble, 0, [most; 5]), Err(2));
+        }
+        for scramble in under_17() {
+            assert_eq!(number(scramble, 2, [most; 5]), Err(17));
+        }
+        for scramble in under_18() {
+            assert_eq!(number(scramble, 2, [most; 5]), Err(18));
+        }
         let steps = [
-            (33, [most; 5], 2),
             (2, [most; 5], 4),
             (2, [2, most, most, most, most], 5),
             (2, [2, 1, most, most, most], 6),
             (2, [2, 1, 1, 1, most], 7),
             (2, [2, 1, 1, 1, 0], 3),
         ];
-        for (level, fields, number) in steps {
-            let answer = query(&zero, NO_SHIFT, level, from_fields(fields));
-            assert_eq!(answer.map_err(Refusal::number), Err(number));
+        for (level, fields, expected) in steps {
+            assert_eq!(number(plain(), level, fields), Err(expected));
+        }
+    }
+
+    /// Nothing else is wrong with these, or one thing behind 18.
+    #[test]
+    fn flips_alone_are_refused() {
+        let fields = [
+            [2, 1, 1, 0, 0],
+            [0; 5],
+            [3, 1, 0, 0, 0],
+            [2, 3, 0, 0, 0],
+            [2, 1, 2, 0, 0],
+            [2, 1, 0, 0, 1 << 30],
+        ];
+        for cell in fields.map(from_fields) {
+            for scramble in under_17() {
+                let answer = query(&Pair::standard(), scramble, 2, cell);
+                assert_eq!(answer, Err(Refusal::FlipBytes));
+            }
+            for scramble in under_18() {
+                let answer = query(&Pair::standard(), scramble, 2, cell);
+                assert_eq!(answer, Err(Refusal::FlipBit));
+            }
         }
     }
 
@@ -158,11 +242,19 @@ mod tests {
     fn bad_shape_is_named_by_the_query() {
         let x = Pair::standard().x;
         let twice = Pair { x, y: x };
-        let answer = query(&twice, NO_SHIFT, 2, from_fields([2, 1, 1, 0, 0]));
+        let answer = query(&twice, plain(), 2, from_fields([2, 1, 1, 0, 0]));
         assert_eq!(answer, Err(Refusal::NotNet { m: 2, a: 1, j: 2 }));
         // Another shape of the same pair is in order and is answered.
-        let answer = query(&twice, NO_SHIFT, 2, from_fields([2, 2, 1, 0, 0]));
+        let answer = query(&twice, plain(), 2, from_fields([2, 2, 1, 0, 0]));
         assert_eq!(answer, Ok(2));
+        // Unscrambled points decide about j, so no scramble changes it.
+        let mut random = Random::from_seed(31);
+        for _ in 0..100 {
+            let cell =
+                from_fields([2, 1, random.word() % 2, random.word() % 2, random.word() >> 2]);
+            let answer = query(&twice, random.scramble().lent(), 2, cell);
+            assert_eq!(answer, Err(Refusal::NotNet { m: 2, a: 1, j: 2 }));
+        }
     }
 
     /// Looks at every index of the block, for every cell of a random shape.
@@ -171,16 +263,21 @@ mod tests {
         let mut random = Random::from_seed(4_711);
         let (mut answered, mut refused) = (0, 0);
         for turn in 0..600 {
-            let (pair, shift) = (random.pair(turn), random.shift());
+            let (pair, owned) = (random.pair(turn), random.scramble());
+            // Some queries have no flips.
+            let scramble =
+                if turn % 4 == 0 { Scramble::of_shift(owned.shift) } else { owned.lent() };
             let m = random.word() % 9;
             let a = random.word() % (m + 1);
             let block = top_bits(random.word(), 32 - m);
             let base = block << m;
+            let point = |p| pair.point(base + p, scramble).unwrap();
+            let points: Vec<Point> = (0..1 << m).map(point).collect();
             for cell in 0..1u32 << m {
                 let (column, row) = (cell >> (m - a), cell & ((1 << (m - a)) - 1));
-                let inside = |&p: &u32| lies_in(pair.point(base + p, shift), m, a, column, row);
+                let inside = |&p: &u32| lies_in(points[p as usize], m, a, column, row);
                 let found: Vec<u32> = (0..1 << m).filter(inside).collect();
-                match query(&pair, shift, 32, Query { m, a, column, row, block }) {
+                match query(&pair, scramble, 32, Query { m, a, column, row, block }) {
                     Ok(index) => {
                         assert_eq!(found, [index - base]);
                         answered += 1;
@@ -197,44 +294,80 @@ mod tests {
         assert!(answered > 1000 && refused > 1000);
     }
 
+    /// Every shape up to m 6, whose sizes lie within the depth of the flips, with
+    /// the first blocks, the last ones and one between.
+    #[test]
+    fn every_cell_has_one_visit_under_flips_and_it_is_found() {
+        let mut random = Random::from_seed(1_600);
+        for m in 0..=6 {
+            let last = ((1u64 << (32 - m)) - 1) as u32;
+            for a in 0..=m {
+                let between = top_bits(random.word(), 32 - m);
+                for block in [0, 1, 5, between, last - 1, last] {
+                    let pairs = [Pair::standard(), random.scrambled_pair()];
+                    let owned = random.scramble();
+                    for pair in pairs {
+                        hold_every_cell_to_one_visit(&pair, owned.lent(), [m, a, block]);
+                    }
+                }
+            }
+        }
+    }
+
+    /// The visits are counted by their cells, and no query is asked for that.
+    fn hold_every_cell_to_one_visit(pair: &Pair, scramble: Scramble<'_>, [m, a, block]: [u32; 3]) {
+        let base = block << m;
+        for column in 0..1 << a {
+            for row in 0..1 << (m - a) {
+                let inside =
+                    |&index: &u32| lies_in(pair.point(index, scramble).unwrap(), m, a, column, row);
+                let found: Vec<u32> = (0..1 << m).map(|p| base + p).filter(inside).collect();
+                assert_eq!(found.len(), 1);
+                let answer = query(pair, scramble, 32, Query { m, a, column, row, block });
+                assert_eq!(answer, Ok(found[0]));
+            }
+        }
+    }
+
     /// The answer for a point's own cell and block is its own index, for
     /// every shape up to m 32.
     #[test]
     fn every_shape_leads_back_to_the_index() {
         let mut random = Random::from_seed(99);
         for _ in 0..20 {
-            let (pair, shift) = (random.scrambled_pair(), random.shift());
-            let index = random.word();
-            let point = pair.point(index, shift);
+            let (pair, owned) = (random.scrambled_pair(), random.scramble());
+            let (scramble, index) = (owned.lent(), random.word());
+            let point = pair.point(index, scramble).unwrap();
             for m in 0..=32 {
                 let block = top_bits(index, 32 - m);
                 for a in 0..=m {
                     let (column, row) = (top_bits(point.x, a), top_bits(point.y, m - a));
                     let cell = Query { m, a, column, row, block };
-                    assert_eq!(query(&pair, shift, 32, cell), Ok(index));
+                    assert_eq!(query(&pair, scramble, 32, cell), Ok(index));
                 }
             }
         }
     }
 
     /// The rule of demand 3: the plain run's answer for the cell exclusive or
-    /// the cell of the block's first visit, plus the block's base.
+    /// the cell of the block's first visit, plus the block's base. It is claimed
+    /// only where all flips are zero.
     #[test]
     fn answer_follows_from_the_plain_run() {
         let mut random = Random::from_seed(3);
         for _ in 0..200 {
-            let (pair, shift) = (random.scrambled_pair(), random.shift());
+            let (pair, scramble) = (random.scrambled_pair(), Scramble::of_shift(random.shift()));
             let m = random.word() % 32;
             let a = random.word() % (m + 1);
             let block = top_bits(random.word(), 32 - m);
             let (column, row) = (top_bits(random.word(), a), top_bits(random.word(), m - a));
             let base = block << m;
-            let first = pair.point(base, shift);
+            let first = pair.point(base, scramble).unwrap();
             let (u, v) = (top_bits(first.x, a), top_bits(first.y, m - a));
             let plain = Query { m, a, column: column ^ u, row: row ^ v, block: 0 };
-            let p = query(&pair, NO_SHIFT, 32, plain).unwrap();
+            let p = query(&pair, Scramble::of_shift(NO_SHIFT), 32, plain).unwrap();
             let cell = Query { m, a, column, row, block };
-            assert_eq!(query(&pair, shift, 32, cell), Ok(base + p));
+            assert_eq!(query(&pair, scramble, 32, cell), Ok(base + p));
         }
     }
 }

@@ -1,5 +1,7 @@
-//! A small xorshift generator, random pairs and random words, for the tests only.
+//! A small xorshift generator, random pairs, scrambles and words, for the tests
+//! only.
 
+use crate::flips::{random_scramble, OwnedScramble};
 use crate::pair::{Pair, Shift};
 use crate::single_cases::{largest_word, smallest_word};
 
@@ -24,6 +26,11 @@ impl Random {
 
     pub fn shift(&mut self) -> Shift {
         Shift { x: self.word(), y: self.word() }
+    }
+
+    /// A random shift with random flips of both axes.
+    pub fn scramble(&mut self) -> OwnedScramble {
+        random_scramble(u64::from(self.word()) << 32 | u64::from(self.word()))
     }
 
     /// In turn: wholly random words, a pair that passes every level, and

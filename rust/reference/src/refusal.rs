@@ -1,5 +1,5 @@
-//! The refusals 1 to 15 of document 01 and 16 of document 02 (C-12), each with
-//! its number.
+//! The refusals 1 to 15 of document 01, and 16 (C-12), 17 and 18 (C-16) of
+//! document 02, each with its number.
 
 use std::fmt;
 
@@ -39,6 +39,10 @@ pub enum Refusal {
     VisitCount,
     /// 16: the reader's field is wider or taller than the region.
     Field,
+    /// 17: the flips of an axis are not 32 bytes.
+    FlipBytes,
+    /// 18: flip bit 255 of either axis is set.
+    FlipBit,
 }
 
 impl Refusal {
@@ -61,6 +65,8 @@ impl Refusal {
             Refusal::Return => 14,
             Refusal::VisitCount => 15,
             Refusal::Field => 16,
+            Refusal::FlipBytes => 17,
+            Refusal::FlipBit => 18,
         }
     }
 }
@@ -87,7 +93,7 @@ mod tests {
     }
 
     #[test]
-    fn numbers_run_from_one_to_sixteen() {
+    fn numbers_run_from_one_to_eighteen() {
         let all = [
             Refusal::WordCount,
             Refusal::Level,
@@ -105,8 +111,10 @@ mod tests {
             Refusal::Return,
             Refusal::VisitCount,
             Refusal::Field,
+            Refusal::FlipBytes,
+            Refusal::FlipBit,
         ];
         let numbers: Vec<u32> = all.iter().map(|refusal| refusal.number()).collect();
-        assert_eq!(numbers, (1..=16).collect::<Vec<u32>>());
+        assert_eq!(numbers, (1..=18).collect::<Vec<u32>>());
     }
 }

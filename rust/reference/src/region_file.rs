@@ -131,12 +131,13 @@ fn fields(bytes: &[u8]) -> Fields {
     })
 }
 
-/// The visits of a chain: records in its order, indexes rising from 0.
+/// The visits of a chain: records in its order, indexes rising from 0. A file
+/// carries no flips.
 pub fn visits(chain: &Chain) -> impl Iterator<Item = Visit> + '_ {
     let pair = Pair::standard();
     chain.records.iter().flat_map(move |record| {
         (0..record.count).map(move |index| {
-            let point = pair.point(index, record.shift);
+            let point = pair.shifted_point(index, record.shift);
             let position = record.region.place(chain.field, point);
             Visit { record: record.number, index, position }
         })
@@ -146,6 +147,7 @@ pub fn visits(chain: &Chain) -> impl Iterator<Item = Visit> + '_ {
 #[cfg(test)]
 mod tests {
     use super::*;
+    use crate::flips::Scramble;
     use crate::random::Random;
     use crate::trial::draft::{Draft, COUNT, FIELD_HEIGHT, FIELD_WIDTH, HEIGHT, LEFT, NEXT, WIDTH};
     use crate::trial::files;
@@ -259,7 +261,8 @@ mod tests {
     }
 
     /// Older files have zeros in bytes 8 to 15. Their visits are those of the
-    /// formula in document 01, and a field of 1 by 1 leaves them so.
+    /// formula in document 01, and a field of 1 by 1 leaves them so. The points are
+    /// those of point calls without flips.
     #[test]
     fn older_files_keep_their_visits() {
         let along = |edge: i32, extent: u32, word: u32| {
@@ -274,7 +277,8 @@ mod tests {
             for record in chain(&file).unwrap().records {
                 let Record { number, region, shift, count } = record;
                 for index in 0..count {
-                    let point = Pair::standard().point(index, shift);
+                    let scramble = Scramble::of_shift(shift);
+                    let point = Pair::standard().point(index, scramble).unwrap();
                     let x = along(region.left, region.width, point.x);
                     let y = along(region.top, region.height, point.y);
                     expected.push(Visit { record: number, index, position: Position { x, y } });

@@ -1,7 +1,8 @@
 //! The walk: visits one by one, each step handing back the walk after it.
 
 use crate::fill::judge_count;
-use crate::pair::{Pair, Point, Shift};
+use crate::flips::Scramble;
+use crate::pair::{Pair, Point};
 use crate::refusal::Refusal;
 
 /// The next index and the number of visits left. The fields are open, so a
@@ -26,30 +27,36 @@ impl Walk {
         Ok(Walk { next: start, left: count })
     }
 
-    /// One step, and the walk after it.
-    pub fn step(self, pair: &Pair, shift: Shift) -> (Step, Walk) {
+    /// One step, and the walk after it. Refusals 17 and 18, in this order, come
+    /// first, also for a walk that has ended; they hand it back as it was.
+    pub fn step(self, pair: &Pair, scramble: Scramble<'_>) -> (Result<Step, Refusal>, Walk) {
+        if let Err(refusal) = scramble.judge() {
+            return (Err(refusal), self);
+        }
         if self.left == 0 {
-            return (Step::Ended, self);
+            return (Ok(Step::Ended), self);
         }
         let index = self.next;
-        let point = pair.point(index, shift);
+        let point = scramble.scrambled(pair.product(index));
         // No index follows the last one, so it ends the walk.
         let after = match index.checked_add(1) {
             Some(next) => Walk { next, left: self.left - 1 },
             None => Walk { next: index, left: 0 },
         };
-        (Step::Visit { index, point }, after)
+        (Ok(Step::Visit { index, point }), after)
     }
 }
 
 #[cfg(test)]
 mod tests {
     use super::*;
+    use crate::flips::refused;
     use crate::pair::NO_SHIFT;
     use crate::random::Random;
 
-    fn visit(pair: &Pair, shift: Shift, index: u32) -> Step {
-        Step::Visit { index, point: pair.point(index, shift) }
+    fn visit(pair: &Pair, scramble: Scramble<'_>, index: u32) -> Result<Step, Refusal> {
+        let point = pair.point(index, scramble)?;
+        Ok(Step::Visit { index, point })
     }
 
     #[test]
@@ -63,17 +70,35 @@ mod tests {
 
     #[test]
     fn three_cases_of_a_step() {
-        let pair = Pair::standard();
+        let (pair, plain) = (Pair::standard(), Scramble::of_shift(NO_SHIFT));
         let ended = Walk { next: 7, left: 0 };
-        assert_eq!(ended.step(&pair, NO_SHIFT), (Step::Ended, ended));
+        assert_eq!(ended.step(&pair, plain), (Ok(Step::Ended), ended));
         let within = Walk { next: 7, left: 3 };
         let after = Walk { next: 8, left: 2 };
-        assert_eq!(within.step(&pair, NO_SHIFT), (visit(&pair, NO_SHIFT, 7), after));
+        assert_eq!(within.step(&pair, plain), (visit(&pair, plain, 7), after));
         for left in [1, 9, u64::MAX] {
             let last = Walk { next: u32::MAX, left };
             let after = Walk { next: u32::MAX, left: 0 };
-            let expected = (visit(&pair, NO_SHIFT, u32::MAX), after);
-            assert_eq!(last.step(&pair, NO_SHIFT), expected);
+            let expected = (visit(&pair, plain, u32::MAX), after);
+            assert_eq!(last.step(&pair, plain), expected);
+        }
+    }
+
+    /// Whether it has ended or not, at the last index too. A step in order from
+    /// the walk handed back gives what it would have given before.
+    #[test]
+    fn refused_step_hands_the_walk_back_as_it_was() {
+        let (pair, plain) = (Pair::standard(), Scramble::of_shift(NO_SHIFT));
+        for next in [0, 7, u32::MAX] {
+            for left in [0, 1, 3, u64::MAX] {
+                let walk = Walk { next, left };
+                for (scramble, number) in refused::all() {
+                    let (step, after) = walk.step(&pair, scramble);
+                    assert_eq!(step.map_err(Refusal::number), Err(number));
+                    assert_eq!(after, Walk { next, left });
+                    assert_eq!(after.step(&pair, plain), walk.step(&pair, plain));
+                }
+            }
         }
     }
 
@@ -83,20 +108,21 @@ mod tests {
     fn list_of_steps() {
         let mut random = Random::from_seed(55);
         for turn in 0..60 {
-            let (pair, shift) = (random.pair(turn), random.shift());
+            let (pair, owned) = (random.pair(turn), random.scramble());
+            let scramble = owned.lent();
             let count = u64::from(random.word() % 20);
             // Half of the walks end exactly at the last index.
             let start = if turn % 2 == 0 { random.word() >> 1 } else { u32::MAX - 20 };
             let count = if turn % 2 == 0 { count } else { 21 };
             let mut walk = Walk::open(start, count).unwrap();
             for n in 0..count + 5 {
-                let (step, after) = walk.step(&pair, shift);
+                let (step, after) = walk.step(&pair, scramble);
                 let index = u64::from(start) + n;
                 match step {
-                    Step::Ended => assert!(n >= count),
+                    Ok(Step::Ended) => assert!(n >= count),
                     given => {
                         assert!(n < count);
-                        assert_eq!(given, visit(&pair, shift, index as u32));
+                        assert_eq!(given, visit(&pair, scramble, index as u32));
                     }
                 }
                 walk = after;

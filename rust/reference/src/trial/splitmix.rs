@@ -7,6 +7,11 @@ pub struct Splitmix {
 }
 
 impl Splitmix {
+    /// The generator whose state starts at the seed.
+    pub fn from_seed(seed: u64) -> Splitmix {
+        Splitmix { state: seed }
+    }
+
     /// The generator of one case. It depends on the case's number and not on
     /// the cases before, so worker threads may take them as they come.
     pub fn of_case(seed: u64, number: u64) -> Splitmix {
@@ -14,7 +19,7 @@ impl Splitmix {
         Splitmix { state: mixed.next() }
     }
 
-    fn next(&mut self) -> u64 {
+    pub(crate) fn next(&mut self) -> u64 {
         self.state = self.state.wrapping_add(STEP);
         let z = self.state;
         let z = (z ^ (z >> 30)).wrapping_mul(0xBF58_476D_1CE4_E5B9);
@@ -52,7 +57,7 @@ mod tests {
 
     #[test]
     fn first_numbers_of_splitmix64() {
-        let mut random = Splitmix { state: 0 };
+        let mut random = Splitmix::from_seed(0);
         assert_eq!(random.next(), 0xE220_A839_7B1D_CDAF);
         assert_eq!(random.next(), 0x6E78_9E6A_A1B9_65F4);
     }

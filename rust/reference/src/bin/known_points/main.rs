@@ -1,18 +1,22 @@
 //! Prints points, checks, queries, fills, walks, unit numbers, positions with
-//! and without a field, answers to region files, listings and sheets, to be
-//! compared byte by byte with the output of another program.
+//! and without a field, answers to region files, listings and sheets, and at the
+//! end points and queries under flips, to be compared byte by byte with the
+//! output of another program.
 
 #![forbid(unsafe_code)]
 
 mod file_sections;
+mod flip_section;
 mod stage_sections;
 
 use std::io::{self, BufWriter, Write};
 
 use reference::check::check;
 use reference::fill::fill;
-use reference::pair::{Pair, Shift, NO_SHIFT};
+use reference::flips::Scramble;
+use reference::pair::{Pair, Point, Shift, NO_SHIFT};
 use reference::query::{query, Query};
+use reference::refusal::Refusal;
 use reference::walk::{Step, Walk};
 
 /// The shift of all sections but the first points.
@@ -27,6 +31,7 @@ fn main() -> io::Result<()> {
     walk_section(&mut output)?;
     stage_sections::all(&mut output)?;
     file_sections::all(&mut output)?;
+    flip_section::all(&mut output)?;
     output.flush()
 }
 
@@ -63,10 +68,18 @@ fn points(
 ) -> io::Result<()> {
     writeln!(output, "points {name} {} {}", shift.x, shift.y)?;
     for index in 0..count {
-        let point = pair.point(index, shift);
-        writeln!(output, "{index} {} {}", point.x, point.y)?;
+        write!(output, "{index} ")?;
+        point_line(output, pair.point(index, Scramble::of_shift(shift)))?;
     }
     Ok(())
+}
+
+/// Both coordinates, or the refusal.
+fn point_line(output: &mut impl Write, point: Result<Point, Refusal>) -> io::Result<()> {
+    match point {
+        Ok(Point { x, y }) => writeln!(output, "{x} {y}"),
+        Err(refusal) => writeln!(output, "{refusal}"),
+    }
 }
 
 fn check_section(output: &mut impl Write) -> io::Result<()> {
@@ -111,12 +124,13 @@ fn check_line(output: &mut impl Write, name: &str, words: &[u32], level: u32) ->
 
 fn query_section(output: &mut impl Write) -> io::Result<()> {
     writeln!(output, "query")?;
-    let other = other_pair();
+    let (other, shifted) = (other_pair(), Scramble::of_shift(OTHER_SHIFT));
     for cell in small_queries().into_iter().chain(large_queries()) {
-        query_line(output, &other, OTHER_SHIFT, 32, cell)?;
+        query_line(output, &other, shifted, 32, cell)?;
     }
+    let plain = Scramble::of_shift(NO_SHIFT);
     let cell = Query { m: 2, a: 1, column: 1, row: 0, block: 0 };
-    query_line(output, &twice_pair(), NO_SHIFT, 2, cell)?;
+    query_line(output, &twice_pair(), plain, 2, cell)?;
     let judged = [
         (33, [2, 1, 0, 0, 0]),
         (0, [2, 1, 0, 0, 0]),
@@ -129,7 +143,7 @@ fn query_section(output: &mut impl Write) -> io::Result<()> {
     ];
     for (level, [m, a, column, row, block]) in judged {
         let cell = Query { m, a, column, row, block };
-        query_line(output, &Pair::standard(), NO_SHIFT, level, cell)?;
+        query_line(output, &Pair::standard(), plain, level, cell)?;
     }
     // With the zero pair every later refusal is due too: 2, 4, 5, 6, 7, 3.
     let most = u32::MAX;
@@ -143,7 +157,7 @@ fn query_section(output: &mut impl Write) -> io::Result<()> {
     ];
     let zero = Pair { x: [0; 32], y: [0; 32] };
     for (level, [m, a, column, row, block]) in in_order {
-        query_line(output, &zero, NO_SHIFT, level, Query { m, a, column, row, block })?;
+        query_line(output, &zero, plain, level, Query { m, a, column, row, block })?;
     }
     Ok(())
 }
@@ -176,13 +190,13 @@ fn large_queries() -> Vec<Query> {
 fn query_line(
     output: &mut impl Write,
     pair: &Pair,
-    shift: Shift,
+    scramble: Scramble<'_>,
     level: u32,
     cell: Query,
 ) -> io::Result<()> {
     let Query { m, a, column, row, block } = cell;
     write!(output, "{m} {a} {column} {row} {block} ")?;
-    match query(pair, shift, level, cell) {
+    match query(pair, scramble, level, cell) {
         Ok(index) => writeln!(output, "found {index}"),
         Err(refusal) => writeln!(output, "{refusal}"),
     }
@@ -216,7 +230,8 @@ fn fill_lines(
 ) -> io::Result<()> {
     let (mut x, mut y) = ([MARK; 5], [MARK; 5]);
     write!(output, "{start} {x_length} ")?;
-    match fill(&other_pair(), OTHER_SHIFT, start, &mut x[..x_length], &mut y[..y_length]) {
+    let scramble = Scramble::of_shift(OTHER_SHIFT);
+    match fill(&other_pair(), scramble, start, &mut x[..x_length], &mut y[..y_length]) {
         Ok(()) => writeln!(output, "done")?,
         Err(refusal) => writeln!(output, "{refusal}")?,
     }
@@ -251,10 +266,13 @@ fn opened_walk(output: &mut impl Write, start: u32, count: u64, steps: u32) -> i
 fn step_lines(output: &mut impl Write, mut walk: Walk, steps: u32) -> io::Result<()> {
     let pair = other_pair();
     for _ in 0..steps {
-        let (step, after) = walk.step(&pair, OTHER_SHIFT);
+        let (step, after) = walk.step(&pair, Scramble::of_shift(OTHER_SHIFT));
         match step {
-            Step::Visit { index, point } => writeln!(output, "{index} {} {}", point.x, point.y)?,
-            Step::Ended => writeln!(output, "ended")?,
+            Ok(Step::Visit { index, point }) => {
+                writeln!(output, "{index} {} {}", point.x, point.y)?;
+            }
+            Ok(Step::Ended) => writeln!(output, "ended")?,
+            Err(refusal) => writeln!(output, "{refusal}")?,
         }
         walk = after;
     }

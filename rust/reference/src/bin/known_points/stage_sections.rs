@@ -2,7 +2,9 @@
 
 use std::io::{self, Write};
 
+use reference::flips::Scramble;
 use reference::pair::{Pair, Point, Shift, NO_SHIFT};
+use reference::refusal::Refusal;
 use reference::stage::{Field, Region};
 use reference::unit::{double, single, Singles};
 use reference::walk::{Step, Walk};
@@ -37,12 +39,17 @@ fn visits_section(output: &mut impl Write, region: Region, shift: Shift) -> io::
     writeln!(output, "visits {left} {top} {width} {height} {} {}", shift.x, shift.y)?;
     let pair = Pair::standard();
     for index in 0..1024 {
-        let point = pair.point(index, shift);
+        let point = accepted(pair.point(index, Scramble::of_shift(shift)))?;
         write!(output, "{index} ")?;
         position_fields(output, region, Field { width: 0, height: 0 }, point)?;
         writeln!(output, " {}", single_fields(point))?;
     }
     Ok(())
+}
+
+/// The answer of a call that nothing here gives a reason to refuse.
+fn accepted<T>(answer: Result<T, Refusal>) -> io::Result<T> {
+    answer.map_err(|refusal| io::Error::new(io::ErrorKind::Other, refusal.to_string()))
 }
 
 /// The position, or its refusal.
@@ -139,12 +146,10 @@ fn fields_section(output: &mut impl Write) -> io::Result<()> {
 fn steps_section(output: &mut impl Write) -> io::Result<()> {
     writeln!(output, "steps")?;
     let pair = Pair::standard();
-    let opened = Walk::open(4_294_967_294, 2);
-    let mut walk =
-        opened.map_err(|refusal| io::Error::new(io::ErrorKind::Other, refusal.to_string()))?;
+    let mut walk = accepted(Walk::open(4_294_967_294, 2))?;
     for _ in 0..3 {
-        let (step, after) = walk.step(&pair, SHIFT);
-        match step {
+        let (step, after) = walk.step(&pair, Scramble::of_shift(SHIFT));
+        match accepted(step)? {
             Step::Visit { index, point } => writeln!(output, "{index} {}", single_fields(point))?,
             Step::Ended => writeln!(output, "ended")?,
         }
