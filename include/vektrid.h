@@ -7,7 +7,10 @@
  * not overlap anything else that is lent to that call.
  *
  * A pair (two generator matrices) is 64 words: the 32 columns of X, then those of Y; column c belongs to index bit c, and the top bit of a
- * word is row 0. shift_x and shift_y are the scramble (a digital shift), one word for each axis.
+ * word is row 0. What follows the products is the scramble: first the flips of each axis, then its shift. flips_x and flips_y are 32 bytes each
+ * (Owen's nested scrambling to depth 8): bit t from the top of a product, t from 0 to 7, is flipped where flip bit 2^t - 1 + p is set, p being
+ * the t bits above it in the product, and flip bit n is bit n % 8 of byte n / 8, both from the lowest. Flip bit 255 belongs to no bit and must be
+ * 0. vektrid_no_flips flips nothing. shift_x and shift_y (a digital shift) are then added, exclusive or.
  *
  * Link target/staticlib/libvektrid.a or target/libvektrid.so; tools/archive makes both.
  */
@@ -23,7 +26,7 @@ extern "C" {
 
 /* The number of this interface. It goes up with every change of a call, a lent struct or an answer, and with every new call, so that a program
  * compiled with this header can tell whether it runs with the library that belongs to it: vektrid_abi() == VEKTRID_ABI. */
-#define VEKTRID_ABI 4
+#define VEKTRID_ABI 5
 uint32_t vektrid_abi(void);
 
 enum vektrid_refusal { /* docs/REFUSALS.md says exactly when each is given */
@@ -43,7 +46,9 @@ enum vektrid_refusal { /* docs/REFUSALS.md says exactly when each is given */
     VEKTRID_MISSING_RECORD = 13, /* the chain names a record that the file lacks */
     VEKTRID_CHAIN_RETURNS = 14,  /* the chain returns to a record */
     VEKTRID_VISIT_COUNT = 15,    /* a record has more than 4,096 visits */
-    VEKTRID_FIELD = 16           /* the reader's field is wider or taller than a region */
+    VEKTRID_FIELD = 16,          /* the reader's field is wider or taller than a region */
+    VEKTRID_FLIP_BYTES = 17,     /* the flips of an axis are not 32 bytes */
+    VEKTRID_FLIP_BIT = 18        /* flip bit 255 of an axis is set */
 };
 
 /* ---- pairs */
@@ -56,29 +61,38 @@ uint32_t vektrid_check(const uint32_t *words, size_t count, uint32_t level, uint
 
 /* ---- points */
 
-/* The point of an index, for any pair: 0 or 1. */
-uint32_t vektrid_point(const uint32_t *words, size_t count, uint32_t shift_x, uint32_t shift_y, uint32_t index, uint32_t *x, uint32_t *y);
+/* The flips of an axis that flip nothing. */
+static const uint8_t vektrid_no_flips[32] = {0};
 
-/* The point of an index of the standard pair, by the fast way. */
-void vektrid_standard_point(uint32_t shift_x, uint32_t shift_y, uint32_t index, uint32_t *x, uint32_t *y);
+/* The point of an index, for any pair: 0, or the first refusal that applies, in the order 1, 17, 18. */
+uint32_t vektrid_point(const uint32_t *words, size_t count, uint32_t shift_x, uint32_t shift_y, const uint8_t *flips_x, size_t flips_x_count,
+                       const uint8_t *flips_y, size_t flips_y_count, uint32_t index, uint32_t *x, uint32_t *y);
 
-/* The points of the indexes from start on, into every word of two buffers of equal length: 0, 1, 8 or 9. */
-uint32_t vektrid_fill(const uint32_t *words, size_t count, uint32_t shift_x, uint32_t shift_y, uint32_t start, uint32_t *xs, size_t xs_count,
-                      uint32_t *ys, size_t ys_count);
+/* The point of an index of the standard pair, by the fast way: 0, 17 or 18. */
+uint32_t vektrid_standard_point(uint32_t shift_x, uint32_t shift_y, const uint8_t *flips_x, size_t flips_x_count, const uint8_t *flips_y,
+                                size_t flips_y_count, uint32_t index, uint32_t *x, uint32_t *y);
+
+/* The points of the indexes from start on, into every word of two buffers of equal length: 0, or the first refusal that applies, in the order 1,
+ * 17, 18, 8, 9. */
+uint32_t vektrid_fill(const uint32_t *words, size_t count, uint32_t shift_x, uint32_t shift_y, const uint8_t *flips_x, size_t flips_x_count,
+                      const uint8_t *flips_y, size_t flips_y_count, uint32_t start, uint32_t *xs, size_t xs_count, uint32_t *ys,
+                      size_t ys_count);
 
 /* ---- walks: a walk is the next index and how many visits are left, both the caller's to keep */
 
 /* A walk over count visits from start on: 0 or 9. */
 uint32_t vektrid_walk_open(uint32_t start, uint64_t count, uint32_t *next, uint64_t *left);
 
-/* A step: 0 or 1. *given is 1 where there was a visit, its index and point then in *index, *x and *y; 0 where the walk has ended, and those
+/* A step: 0, or the first refusal that applies, in the order 1, 17, 18, also where the walk has ended. *given is 1 where there was a visit, its index and point then in *index, *x and *y; 0 where the walk has ended, and those
  * three keep what they held. *next and *left become the walk after the step. Any *next and *left are answered, also ones that were never
  * opened. After the visit of index 2^32 - 1, *left is 0 and *next stays. */
-uint32_t vektrid_walk_step(const uint32_t *words, size_t count, uint32_t shift_x, uint32_t shift_y, uint32_t *next, uint64_t *left,
-                           uint32_t *given, uint32_t *index, uint32_t *x, uint32_t *y);
+uint32_t vektrid_walk_step(const uint32_t *words, size_t count, uint32_t shift_x, uint32_t shift_y, const uint8_t *flips_x,
+                           size_t flips_x_count, const uint8_t *flips_y, size_t flips_y_count, uint32_t *next, uint64_t *left, uint32_t *given,
+                           uint32_t *index, uint32_t *x, uint32_t *y);
 
 /* The same with the point as two singles. */
-uint32_t vektrid_walk_step_singles(const uint32_t *words, size_t count, uint32_t shift_x, uint32_t shift_y, uint32_t *next, uint64_t *left,
+uint32_t vektrid_walk_step_singles(const uint32_t *words, size_t count, uint32_t shift_x, uint32_t shift_y, const uint8_t *flips_x,
+                                   size_t flips_x_count, const uint8_t *flips_y, size_t flips_y_count, uint32_t *next, uint64_t *left,
                                    uint32_t *given, uint32_t *index, float *x, float *y);
 
 /* ---- cells */
@@ -86,21 +100,23 @@ uint32_t vektrid_walk_step_singles(const uint32_t *words, size_t count, uint32_t
 /* The shape (m, a) has 2^a columns and 2^(m-a) rows; a point's column is the top a bits of its x, its row the top m-a bits of its y. Block k
  * has the indexes k * 2^m to (k+1) * 2^m - 1. The level only bounds m; the pair need not be checked before.
  *
- * Writes the one index of the block whose point lies in the cell to *index: 0, or the first refusal that applies, in the order 1, 2, 4,
- * 5, 6, 7, 3. Refusal 3 writes to *j the least index above 0 that shares the cell of index 0 in this shape, whatever cell, block and shift
- * were asked for. */
-uint32_t vektrid_query(const uint32_t *words, size_t count, uint32_t shift_x, uint32_t shift_y, uint32_t level, uint32_t m, uint32_t a,
-                       uint32_t column, uint32_t row, uint32_t block, uint32_t *index, uint32_t *j);
+ * Writes the one index of the block whose point lies in the cell to *index: 0, or the first refusal that applies, in the order 1, 2, 17, 18,
+ * 4, 5, 6, 7, 3. Refusal 3 writes to *j the least index above 0 that shares the cell of index 0 in this shape, whatever cell, block, shift and
+ * flips were asked for. */
+uint32_t vektrid_query(const uint32_t *words, size_t count, uint32_t shift_x, uint32_t shift_y, const uint8_t *flips_x, size_t flips_x_count,
+                       const uint8_t *flips_y, size_t flips_y_count, uint32_t level, uint32_t m, uint32_t a, uint32_t column, uint32_t row,
+                       uint32_t block, uint32_t *index, uint32_t *j);
 
 /* Many cells of one shape and block in one call: writes what vektrid_query gives for the cell (columns[i], rows[i]) to answers[i]. A cell may
  * stand there more than once, and columns and rows, which are only read, may overlap each other.
  *
- * 0, or the first refusal that applies, in the order 1, 8, 2, 4, 5, then 6 of the first cell, 7, 3, then 6 of the later cells. 8 is given unless
- * the three counts are equal. From 2 on this is what vektrid_query answers for the earliest cell that it refuses; without cells, the level, the
- * shape and the block are judged all the same, and the pair for this shape. Refusal 3 writes *j as in vektrid_query. */
-uint32_t vektrid_overview(const uint32_t *words, size_t count, uint32_t shift_x, uint32_t shift_y, uint32_t level, uint32_t m, uint32_t a,
-                          uint32_t block, const uint32_t *columns, size_t columns_count, const uint32_t *rows, size_t rows_count,
-                          uint32_t *answers, size_t answers_count, uint32_t *j);
+ * 0, or the first refusal that applies, in the order 1, 8, 2, 17, 18, 4, 5, then 6 of the first cell, 7, 3, then 6 of the later cells. 8 is
+ * given unless the three counts are equal. From 2 on this is what vektrid_query answers for the earliest cell that it refuses; without cells, the
+ * level, the flips, the shape and the block are judged all the same, and the pair for this shape. Refusal 3 writes *j as in vektrid_query. */
+uint32_t vektrid_overview(const uint32_t *words, size_t count, uint32_t shift_x, uint32_t shift_y, const uint8_t *flips_x, size_t flips_x_count,
+                          const uint8_t *flips_y, size_t flips_y_count, uint32_t level, uint32_t m, uint32_t a, uint32_t block,
+                          const uint32_t *columns, size_t columns_count, const uint32_t *rows, size_t rows_count, uint32_t *answers,
+                          size_t answers_count, uint32_t *j);
 
 /* ---- unit numbers */
 
@@ -110,8 +126,9 @@ double vektrid_double(uint32_t word);
 /* The largest single not above a word divided by 2^32. docs/SINGLES.md lays its bits out, by cases. */
 float vektrid_single(uint32_t word);
 
-/* The point of an index as two singles, for any pair: 0 or 1. */
-uint32_t vektrid_point_singles(const uint32_t *words, size_t count, uint32_t shift_x, uint32_t shift_y, uint32_t index, float *x, float *y);
+/* The point of an index as two singles, for any pair: 0, or the first refusal that applies, in the order 1, 17, 18. */
+uint32_t vektrid_point_singles(const uint32_t *words, size_t count, uint32_t shift_x, uint32_t shift_y, const uint8_t *flips_x,
+                               size_t flips_x_count, const uint8_t *flips_y, size_t flips_y_count, uint32_t index, float *x, float *y);
 
 /* ---- the stage */
 
