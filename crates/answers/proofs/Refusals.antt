@@ -12,7 +12,7 @@ use Rattle.refusal.proofs.Refusal.{the-type}
 
 -- the numbers that the variants without values have among all variants, from 0
 abbrev pub without-values : List ℕ
-without-values = 0 ∷ 1 ∷ 3 ∷ 4 ∷ 5 ∷ 6 ∷ 7 ∷ 8 ∷ 9 ∷ 10 ∷ 11 ∷ 12 ∷ 13 ∷ 14 ∷ 15 ∷ []
+without-values = 0 ∷ 1 ∷ 3 ∷ 4 ∷ 5 ∷ 6 ∷ 7 ∷ 8 ∷ 9 ∷ 10 ∷ 11 ∷ 12 ∷ 13 ∷ 14 ∷ 15 ∷ 16 ∷ 17 ∷ []
 
 pub no-values : (why : Refusal) → OneOf without-values (tagOf the-type why) → values why ≡ []
 no-values variant.WordCount h = refl
@@ -31,3 +31,5 @@ no-values variant.MissingRecord h = refl
 no-values variant.ChainReturns h = refl
 no-values variant.VisitCount h = refl
 no-values variant.Field h = refl
+no-values variant.FlipBytes h = refl
+no-values variant.FlipBit h = refl

@@ -9,7 +9,7 @@ use Rattle.refusal.specs.declared.Judgement.{Judgement}
 use Rattle.refusal.specs.declared.Judgement.the-variants as judgement
 use Rattle.refusal.proofs.First.{refused-before, passed-before, granted-accepted}
 use Rattle.flips.specs.declared.sets.Flips.{Flips}
-use Rattle.flips.specs.Load.{flips-tests, flips-outcome, loaded}
+use Rattle.flips.specs.Load.{flips-tests, flips-outcome, flips-loaded}
 
 module _ (f : Flips) {answer : Judgement} (is : of-judgement answer ≡ flips-outcome f) where
   pub flips-stop : {why : Refusal} → answer ≡ judgement.Refused why → {A : Type 0} (after : Outcome A) → of-refusal why ≡ first (flips-tests f) after
@@ -22,5 +22,5 @@ module _ (f : Flips) {answer : Judgement} (is : of-judgement answer ≡ flips-ou
     pub flips-pass : {A : Type 0} (after : Outcome A) → first (flips-tests f) after ≡ after
     flips-pass after = passed-before tt after (flips-tests f) flips-accepted
 
-    pub flips-are : {g : Flips} → g ≡ loaded f → g ≡ f
+    pub flips-are : {g : Flips} → g ≡ flips-loaded f → g ≡ f
     flips-are held = held ∙ granted-accepted _ _ flips-accepted

@@ -12,7 +12,7 @@ use Rattle.refusal.specs.Outcome.{Outcome, accepted, refused, first}
 use Rattle.refusal.proofs.First.{first-none, first-refuses, first-passes, granted-accepted, granted-refused}
 use Rattle.flips.specs.Flips.{flip-bit}
 use Rattle.flips.specs.declared.sets.Flips.{Flips}
-use Rattle.flips.specs.Load.{flips-of, unused-set, flips-outcome, no-flips, loaded}
+use Rattle.flips.specs.Load.{flips-of, unused-set, flips-outcome, no-flips, flips-loaded}
 
 or-left : {a : Bool} (b : Bool) → a ≡ true → (a || b) ≡ true
 or-left b e = rw e refl
@@ -61,8 +61,8 @@ module _ (x y : List ℕ) where
 
 module _ (f : Flips) {o : Outcome Unit} {g : Flips} where
   pub load-refused : {n : ℕ} {vs : List ℕ} → flips-outcome f ≡ refused n vs → o ≡ refused n vs → g ≡ no-flips
-      → (o ≡ flips-outcome f) × (g ≡ loaded f)
+      → (o ≡ flips-outcome f) × (g ≡ flips-loaded f)
   load-refused e p q = (p ∙ sym e, q ∙ sym (granted-refused _ _ e))
 
-  pub load-accepted : flips-outcome f ≡ accepted tt → o ≡ accepted tt → g ≡ f → (o ≡ flips-outcome f) × (g ≡ loaded f)
+  pub load-accepted : flips-outcome f ≡ accepted tt → o ≡ accepted tt → g ≡ f → (o ≡ flips-outcome f) × (g ≡ flips-loaded f)
   load-accepted e p q = (p ∙ sym e, q ∙ sym (granted-accepted _ _ e))

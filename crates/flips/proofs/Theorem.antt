@@ -15,7 +15,7 @@ use Rattle.refusal.proofs.First.{accepted-refused, refused-same}
 use Rattle.flips.specs.Flips.{flip-bit, flipped, unflipped}
 use Rattle.flips.specs.Scramble.{scramble-word, unscramble-word}
 use Rattle.flips.specs.Load.{flips-of, flips-outcome, no-flips}
-use Rattle.flips.specs.Theorem.{Flipping, Scrambled, Judged, Theorems}
+use Rattle.flips.specs.Theorem.{Flipping, WordScrambling, FlipsJudged, Theorems}
 use Rattle.flips.proofs.Flips.{flip-bit-lt, at, bit, deeper, flipped-lt, flipped-lawful, flipped-undone}
 use Rattle.flips.proofs.None.{leaves, none-of-zeros, zeros-of-none}
 use Rattle.flips.proofs.Scrambled.{scrambled-lawful, scrambled-undone, masked}
@@ -31,7 +31,7 @@ flipping flips = record {
   none = leaves flips;
 }
 
-scrambled : (flips : List ℕ) (s : ℕ) → s < 2 ^ 32 → Scrambled flips s
+scrambled : (flips : List ℕ) (s : ℕ) → s < 2 ^ 32 → WordScrambling flips s
 scrambled flips s h = record {
   lawful = scrambled-lawful flips s h;
   undone = scrambled-undone flips s h;
@@ -98,7 +98,7 @@ module _ (x y : List ℕ) where
   fine-of (inr (inl set)) e = absurd (accepted-refused (sym e ∙ set-refused set))
   fine-of (inr (inr fine)) e = fine
 
-  judged : Judged x y
+  judged : FlipsJudged x y
   judged = record {
     bytes-iff = (short-of some, short-refused);
     unused-iff = (set-of some, set-refused);

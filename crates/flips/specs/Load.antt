@@ -35,6 +35,6 @@ flips-outcome f = first (flips-tests f) (accepted tt)
 abbrev pub no-flips : Flips
 no-flips = flips-of (replicate flip-bytes 0) (replicate flip-bytes 0)
 
--- the flips loaded; of bytes that are refused no bit is set
-abbrev pub loaded : Flips → Flips
-loaded f = granted (flips-outcome f) f no-flips
+-- the flips that are loaded; of bytes that are refused no bit is set
+abbrev pub flips-loaded : Flips → Flips
+flips-loaded f = granted (flips-outcome f) f no-flips

@@ -26,7 +26,7 @@ pub record Flipping (flips : List ℕ) : Type 0 where
   pub none : NoneSet flips → (w : ℕ) → w < 2 ^ 32 → flipped flips w ≡ w
 
 -- flips and then a shift s: a lawful scrambling, undone from both sides; what it adds to a word hangs on the word's top byte alone
-pub record Scrambled (flips : List ℕ) (s : ℕ) : Type 0 where
+pub record WordScrambling (flips : List ℕ) (s : ℕ) : Type 0 where
   pub lawful : PrefixBijection 2 32 (scramble-word flips s)
   pub undone : RightInverse 2 32 (scramble-word flips s) (unscramble-word flips s)
   pub back : (w : ℕ) → w < 2 ^ 32 → unscramble-word flips s (scramble-word flips s w) ≡ w
@@ -34,7 +34,7 @@ pub record Scrambled (flips : List ℕ) (s : ℕ) : Type 0 where
 
 -- 17 exactly where an axis has not 32 bytes; 18 exactly where both have them and flip bit 255 of one is set; and accepted exactly where
 -- both have them and neither bit is set
-pub record Judged (x y : List ℕ) : Type 0 where
+pub record FlipsJudged (x y : List ℕ) : Type 0 where
   pub bytes-iff : (flips-outcome (flips-of x y) ≡ refused 17 []) ↔ ((length x ≢ 32) ⊎ (length y ≢ 32))
   pub unused-iff : (flips-outcome (flips-of x y) ≡ refused 18 [])
       ↔ ((length x ≡ 32) × (length y ≡ 32) × ((flip-bit x 255 ≡ 1) ⊎ (flip-bit y 255 ≡ 1)))
@@ -44,8 +44,8 @@ pub record Judged (x y : List ℕ) : Type 0 where
 pub record Theorems : Type 0 where
   -- of any bytes
   pub flipping : (flips : List ℕ) → Flipping flips
-  pub scrambled : (flips : List ℕ) (s : ℕ) → s < 2 ^ 32 → Scrambled flips s
-  pub judged : (x y : List ℕ) → Judged x y
+  pub scrambled : (flips : List ℕ) (s : ℕ) → s < 2 ^ 32 → WordScrambling flips s
+  pub judged : (x y : List ℕ) → FlipsJudged x y
   -- no flips are accepted, and 32 bytes without a set bit are no flips
   pub none-accepted : flips-outcome no-flips ≡ accepted tt
   pub none-set : NoneSet (no-flips .x) × NoneSet (no-flips .y)

@@ -7,7 +7,7 @@ ghost use mathlib.Core.Bool.{true};
 ghost use lib.ListN.{length};
 ghost use Rattle.refusal.specs.Refusal.{of-judgement, of-refusal};
 ghost use Rattle.flips.specs.Flips.{NoneSet};
-ghost use Rattle.flips.specs.Load.{flips-of, flip-bytes, flips-outcome, no-flips, loaded};
+ghost use Rattle.flips.specs.Load.{flips-of, flip-bytes, flips-outcome, no-flips, flips-loaded};
 
 // The number of bytes of an axis's flips.
 const FLIP_BYTES: usize = 32;
@@ -58,7 +58,7 @@ impl Flips {
     // The flips that the bytes of two axes hold.
     pub fn load(x: &[u8], y: &[u8]) -> Loaded
         ensures answer { λ r. ⌜ of-judgement (r .answer) ≡ flips-outcome (flips-of (now (x .entry)) (now (y .entry))) ⌝ }
-        ensures flips { λ r. ⌜ r .flips ≡ loaded (flips-of (now (x .entry)) (now (y .entry))) ⌝ }
+        ensures flips { λ r. ⌜ r .flips ≡ flips-loaded (flips-of (now (x .entry)) (now (y .entry))) ⌝ }
     {
         if x.len() != FLIP_BYTES {
             return refused(Refusal::FlipBytes);

@@ -13,7 +13,6 @@ use Rattle.refusal.proofs.First.{then-accepted, then-refused}
 use Rattle.plan.specs.declared.pair.Plan.{Plan}
 use Rattle.plan.specs.Pair.{load-outcome, loaded}
 use Rattle.answers.specs.Answers.{answer-number}
-use Rattle.pair_calls.specs.Calls.{of-pair}
 
 -- loading, by its one test
 abbrev tested : Bool → Outcome Unit
@@ -43,7 +42,7 @@ module _ (words : List ℕ) {n : ℕ} (is : n ≡ answer-number (load-outcome wo
     pub goes-on : n ≡ 0 → then (load-outcome words) after ≡ after
     goes-on none = then-accepted after (load-accepted none)
 
-  -- an accepted call gives what it made of the loaded matrices
-  pub gives : n ≡ 0 → {A : Type 0} (make : Plan → A) {P : Plan} {a : A} → P ≡ loaded words → a ≡ make P
-      → of-pair words (make (loaded words)) ≡ accepted a
-  gives none make plan made = goes-on _ none ∙ ap accepted (sym (made ∙ ap make plan))
+  -- a call comes to what was made of the loaded matrices
+  pub gives : n ≡ 0 → {A : Type 0} (make : Plan → Outcome A) {P : Plan} {o : Outcome A} → P ≡ loaded words → o ≡ make P
+      → then (load-outcome words) (make (loaded words)) ≡ o
+  gives none make plan made = goes-on _ none ∙ sym (made ∙ ap make plan)

@@ -1,44 +1,41 @@
--- A step of a walk with a pair: what is left in the lent words, by whether the pair is refused, the walk has ended, or there is a visit.
+-- A step of a walk with a pair: what is left in the lent words, by whether the call is refused, the walk has ended, or there is a visit.
 -- Assumes nothing.
-use mathlib.Core.Path.{_≡_, sym, ap, _∙_}
-use mathlib.Core.Logic.{_≢_}
+use mathlib.Core.Path.{_≡_, sym, ap, ap₂, _∙_}
 use mathlib.Core.List.{List}
 use Prim.Native.Nat.{ℕ}
-use Rattle.ranges.specs.Walk.{Walk, Answer, visited, ended, Stepped, step}
-use Rattle.net.specs.Sequence.{Sequence}
-use Rattle.refusal.specs.Outcome.{Outcome, accepted}
-use Rattle.refusal.proofs.First.{refused-leaves, accepted-hands}
-use Rattle.word.specs.Index.{last-index}
-use Rattle.plan.specs.declared.pair.Plan.{Plan}
-use Rattle.plan.specs.Pair.{sequence, load-outcome, loaded}
+use Rattle.ranges.specs.Walk.{Walk, Answer, visited, ended, Stepped}
+use Rattle.refusal.specs.Outcome.{Outcome, accepted, refused, part-left, through}
+use Rattle.refusal.proofs.First.{through-refused, through-accepted, refused-leaves, accepted-hands}
 use Rattle.answers.specs.Answers.{answer-number, StepWords, step-words, left-by-step, left-in}
 use Rattle.answers.proofs.Outcomes.{refused-answer, accepted-answer}
-use Rattle.pair_calls.specs.Calls.{pair-points, of-pair}
-use Rattle.pair_calls.proofs.Loading.{stops, gives}
 
--- the step from the walk in the lent words, for visits of any kind
-abbrev from : {A P : Type 0} → (Sequence → ℕ → A) → Sequence → StepWords P → Stepped A
-from visit-of S old = step (visit-of S) last-index (record { next = old .next; left = old .left })
+module _ {A P : Type 0} (index : A → ℕ) (point : A → P) (old : StepWords P) where
+  -- what a refused call leaves
+  pub step-refused : {o : Outcome (Stepped A)} {n : ℕ} {vs : List ℕ} → o ≡ refused n vs → (n ≡ answer-number o) × (old ≡ left-in o index point old)
+  step-refused e = (refused-answer e, refused-leaves _ old e)
 
-abbrev outcome : {A P : Type 0} → (Sequence → ℕ → A) → List ℕ → ℕ → ℕ → StepWords P → Outcome (Stepped A)
-outcome visit-of words shift-x shift-y old = of-pair words (from visit-of (pair-points words shift-x shift-y) old)
+  -- the step under the call, told by its answer and by the walk after it
+  module _ {o q : Outcome (Stepped A)} (is : o ≡ q) {told : Outcome (Answer A)} {after : Walk}
+      (tells : told ≡ through (λ (t : Stepped A). t .answer) q)
+      (walks : after ≡ part-left q (λ (t : Stepped A). t .walk) (record { next = old .next; left = old .left })) where
+    pub step-stops : {n : ℕ} {vs : List ℕ} → told ≡ refused n vs → (n ≡ answer-number o) × (old ≡ left-in o index point old)
+    step-stops e = step-refused (is ∙ through-refused (λ (t : Stepped A). t .answer) q (sym e ∙ tells))
 
-module _ {A P : Type 0} (visit-of : Sequence → ℕ → A) (index : A → ℕ) (point : A → P) (words : List ℕ) (shift-x shift-y : ℕ) (old : StepWords P)
-    {n : ℕ} (number : n ≡ answer-number (load-outcome words)) where
-  abbrev o : Outcome (Stepped A)
-  o = outcome visit-of words shift-x shift-y old
+    -- an accepted step hands back the walk and gives what was told
+    taken : {s : Answer A} → told ≡ accepted s → (t : Stepped A) × ((o ≡ accepted t) × ((s ≡ t .answer) × (after ≡ t .walk)))
+    taken e =
+        let (t, (at, same)) = through-accepted (λ (t : Stepped A). t .answer) q (sym e ∙ tells) in
+        (t, (is ∙ at, (same, walks ∙ sym (accepted-hands (λ (t : Stepped A). t .walk) _ at))))
 
-  pub step-refused : n ≢ 0 → (n ≡ answer-number o) × (old ≡ left-in o index point old)
-  step-refused some = let e = stops words number _ some in (refused-answer e, refused-leaves _ old e)
+    left : {s : Answer A} → told ≡ accepted s → (0 ≡ answer-number o) × (left-by-step after s index point old ≡ left-in o index point old)
+    left e =
+        let (t, (at, (same, walked))) = taken e in
+        (accepted-answer at, ap₂ (λ (w : Walk) (s : Answer A). left-by-step w s index point old) walked same ∙ accepted-hands _ old at)
 
-  module _ (none : n ≡ 0) {plan : Plan} (loads : plan ≡ loaded words) {s : Answer A} {w : Walk}
-      (taken : record { answer = s; walk = w } ≡ from visit-of (sequence plan (record { x = shift-x; y = shift-y })) old) where
-    is : o ≡ accepted (record { answer = s; walk = w })
-    is = gives words number none (λ P. from visit-of (sequence P (record { x = shift-x; y = shift-y })) old) loads taken
+    pub step-visited : (v : A) → told ≡ accepted (visited v)
+        → (0 ≡ answer-number o) × (step-words (after .next) (after .left) 1 (index v) (point v) ≡ left-in o index point old)
+    step-visited v e = left e
 
-    pub step-visited : {v : A} → s ≡ visited v
-        → (0 ≡ answer-number o) × (step-words (w .next) (w .left) 1 (index v) (point v) ≡ left-in o index point old)
-    step-visited e = (accepted-answer is, ap (λ (t : Answer A). left-by-step w t index point old) (sym e) ∙ accepted-hands _ old is)
-
-    pub step-ended : s ≡ ended → (0 ≡ answer-number o) × (step-words (w .next) (w .left) 0 (old .index) (old .point) ≡ left-in o index point old)
-    step-ended e = (accepted-answer is, ap (λ (t : Answer A). left-by-step w t index point old) (sym e) ∙ accepted-hands _ old is)
+    pub step-ended : told ≡ accepted ended
+        → (0 ≡ answer-number o) × (step-words (after .next) (after .left) 0 (old .index) (old .point) ≡ left-in o index point old)
+    step-ended e = left e

@@ -9,7 +9,7 @@ use word::Index;
 ghost use mathlib.Core.Path.{_≡_};
 ghost use Rattle.refusal.specs.Outcome.{part-left};
 ghost use Rattle.answers.specs.Answers.{answer-number, value-left};
-ghost use Rattle.pair_calls.specs.Calls.{pair-query-outcome};
+ghost use Rattle.pair_calls.specs.Calls.{scramble-words, pair-query-outcome};
 
 // The answer, and what the words lent for the index and for the least index of a bad shape hold then.
 pub struct QueryAnswer {
@@ -23,6 +23,8 @@ pub fn query(
     words: &[u32],
     shift_x: u32,
     shift_y: u32,
+    flips_x: &[u8],
+    flips_y: &[u8],
     level: u32,
     m: u32,
     a: u32,
@@ -33,11 +35,17 @@ pub fn query(
     j: u32,
 ) -> QueryAnswer
     ensures answer { λ r. ⌜
-        r .answer ≡ answer-number (pair-query-outcome (now (words .entry)) «shift_x» «shift_y» level m a column row block) ⌝ }
+        r .answer
+        ≡ answer-number (pair-query-outcome (now (words .entry))
+        (scramble-words «shift_x» «shift_y» (now («flips_x» .entry)) (now («flips_y» .entry))) level m a column row block) ⌝ }
     ensures index { λ r. ⌜
-        r .index ≡ part-left (pair-query-outcome (now (words .entry)) «shift_x» «shift_y» level m a column row block) (λ i. i) index ⌝ }
+        r .index
+        ≡ part-left (pair-query-outcome (now (words .entry))
+        (scramble-words «shift_x» «shift_y» (now («flips_x» .entry)) (now («flips_y» .entry))) level m a column row block) (λ i. i) index ⌝ }
     ensures j { λ r. ⌜
-        r .j ≡ value-left (pair-query-outcome (now (words .entry)) «shift_x» «shift_y» level m a column row block) 2 j ⌝ }
+        r .j
+        ≡ value-left (pair-query-outcome (now (words .entry))
+        (scramble-words «shift_x» «shift_y» (now («flips_x» .entry)) (now («flips_y» .entry))) level m a column row block) 2 j ⌝ }
 {
     let answer = pair_answer(words);
     if answer != 0 {
@@ -50,6 +58,8 @@ pub fn query(
             x: shift_x,
             y: shift_y,
         },
+        flips_x,
+        flips_y,
         level,
         m,
         a,

@@ -9,7 +9,7 @@ use word::Index;
 ghost use mathlib.Core.Path.{_≡_};
 ghost use Prim.Native.Nat.{ℕ};
 ghost use Rattle.answers.specs.Answers.{answer-number, step-words, left-in};
-ghost use Rattle.pair_calls.specs.Calls.{step-outcome, two-singles, step-singles-outcome};
+ghost use Rattle.pair_calls.specs.Calls.{scramble-words, pair-step-outcome, two-singles, pair-singles-step-outcome};
 
 // The answer, and what the words lent to a step hold then.
 pub struct StepAnswer {
@@ -33,11 +33,13 @@ pub struct SinglesStepAnswer {
     pub y: f32,
 }
 
-// A step: the visit, if one was left, and the walk after it.
+// A step: the visit, if one was left, and the walk after it. A refused step leaves all as it came.
 pub fn step(
     words: &[u32],
     shift_x: u32,
     shift_y: u32,
+    flips_x: &[u8],
+    flips_y: &[u8],
     next: Index,
     left: u64,
     given: u32,
@@ -45,10 +47,14 @@ pub fn step(
     x: u32,
     y: u32,
 ) -> StepAnswer
-    ensures answer { λ r. ⌜ r .answer ≡ answer-number (step-outcome (now (words .entry)) «shift_x» «shift_y» next left) ⌝ }
+    ensures answer { λ r. ⌜
+        r .answer
+        ≡ answer-number (pair-step-outcome (now (words .entry))
+        (scramble-words «shift_x» «shift_y» (now («flips_x» .entry)) (now («flips_y» .entry))) next left) ⌝ }
     ensures words { λ r. ⌜
         step-words {P = ℕ × ℕ} (r .next) (r .left) (r .given) (r .index) (r .x, r .y)
-        ≡ left-in (step-outcome (now (words .entry)) «shift_x» «shift_y» next left) (λ v. v .index) (λ v. (v .x, v .y))
+        ≡ left-in (pair-step-outcome (now (words .entry))
+        (scramble-words «shift_x» «shift_y» (now («flips_x» .entry)) (now («flips_y» .entry))) next left) (λ v. v .index) (λ v. (v .x, v .y))
         (step-words next left given index (x, y)) ⌝ }
 {
     let answer = pair_answer(words);
@@ -65,17 +71,24 @@ pub fn step(
     }
     let plan = pair_plan(words);
     let walk = Walk { next, left };
-    let stepped = walk.step(
-        plan,
-        Shift {
-            x: shift_x,
-            y: shift_y,
-        },
-    );
+    let shift = Shift {
+        x: shift_x,
+        y: shift_y,
+    };
+    let stepped = walk.step(plan, shift, flips_x, flips_y);
     let after = stepped.walk;
     let step = stepped.step;
-    let Step::Visited(visit) = step else {
-        return StepAnswer {
+    match step {
+        Step::Refused(why) => StepAnswer {
+            answer: why.number(),
+            next,
+            left,
+            given,
+            index,
+            x,
+            y,
+        },
+        Step::Ended => StepAnswer {
             answer: 0,
             next: after.next,
             left: after.left,
@@ -83,16 +96,16 @@ pub fn step(
             index,
             x,
             y,
-        };
-    };
-    StepAnswer {
-        answer: 0,
-        next: after.next,
-        left: after.left,
-        given: 1,
-        index: visit.index,
-        x: visit.x,
-        y: visit.y,
+        },
+        Step::Visited(visit) => StepAnswer {
+            answer: 0,
+            next: after.next,
+            left: after.left,
+            given: 1,
+            index: visit.index,
+            x: visit.x,
+            y: visit.y,
+        },
     }
 }
 
@@ -101,6 +114,8 @@ pub fn step_singles(
     words: &[u32],
     shift_x: u32,
     shift_y: u32,
+    flips_x: &[u8],
+    flips_y: &[u8],
     next: Index,
     left: u64,
     given: u32,
@@ -108,10 +123,14 @@ pub fn step_singles(
     x: f32,
     y: f32,
 ) -> SinglesStepAnswer
-    ensures answer { λ r. ⌜ r .answer ≡ answer-number (step-singles-outcome (now (words .entry)) «shift_x» «shift_y» next left) ⌝ }
+    ensures answer { λ r. ⌜
+        r .answer
+        ≡ answer-number (pair-singles-step-outcome (now (words .entry))
+        (scramble-words «shift_x» «shift_y» (now («flips_x» .entry)) (now («flips_y» .entry))) next left) ⌝ }
     ensures words { λ r. ⌜
         step-words (r .next) (r .left) (r .given) (r .index) (two-singles (r .x) (r .y))
-        ≡ left-in (step-singles-outcome (now (words .entry)) «shift_x» «shift_y» next left) (λ v. v .index) (λ v. v .at)
+        ≡ left-in (pair-singles-step-outcome (now (words .entry))
+        (scramble-words «shift_x» «shift_y» (now («flips_x» .entry)) (now («flips_y» .entry))) next left) (λ v. v .index) (λ v. v .at)
         (step-words next left given index (two-singles x y)) ⌝ }
 {
     let answer = pair_answer(words);
@@ -128,18 +147,24 @@ pub fn step_singles(
     }
     let plan = pair_plan(words);
     let walk = Walk { next, left };
-    let stepped = unit::step_singles(
-        walk,
-        plan,
-        Shift {
-            x: shift_x,
-            y: shift_y,
-        },
-    );
+    let shift = Shift {
+        x: shift_x,
+        y: shift_y,
+    };
+    let stepped = unit::step_singles(walk, plan, shift, flips_x, flips_y);
     let after = stepped.walk;
     let step = stepped.step;
-    let SinglesStep::Visited(visit) = step else {
-        return SinglesStepAnswer {
+    match step {
+        SinglesStep::Refused(why) => SinglesStepAnswer {
+            answer: why.number(),
+            next,
+            left,
+            given,
+            index,
+            x,
+            y,
+        },
+        SinglesStep::Ended => SinglesStepAnswer {
             answer: 0,
             next: after.next,
             left: after.left,
@@ -147,16 +172,18 @@ pub fn step_singles(
             index,
             x,
             y,
-        };
-    };
-    let at = visit.at;
-    SinglesStepAnswer {
-        answer: 0,
-        next: after.next,
-        left: after.left,
-        given: 1,
-        index: visit.index,
-        x: at.x,
-        y: at.y,
+        },
+        SinglesStep::Visited(visit) => {
+            let at = visit.at;
+            SinglesStepAnswer {
+                answer: 0,
+                next: after.next,
+                left: after.left,
+                given: 1,
+                index: visit.index,
+                x: at.x,
+                y: at.y,
+            }
+        }
     }
 }

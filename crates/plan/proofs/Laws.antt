@@ -15,7 +15,7 @@ use Rattle.refusal.specs.declared.Judgement.{Judgement}
 use Rattle.refusal.specs.declared.Judgement.the-variants as judgement
 use Rattle.word.specs.Matrices.{pair}
 use Rattle.flips.specs.declared.sets.Flips.{Flips}
-use Rattle.flips.specs.Load.{flips-of, flips-tests, flips-outcome, loaded}
+use Rattle.flips.specs.Load.{flips-of, flips-tests, flips-outcome, flips-loaded}
 use Rattle.flips.proofs.Judging.{flips-stop, flips-pass, flips-are}
 use Rattle.plan.specs.declared.points.Shift.{Shift}
 use Rattle.plan.specs.declared.points.Scramble.{Scramble}
@@ -42,7 +42,7 @@ of-loaded shift g = record { shift = shift; flips = g }
 
 module _ (shift : Shift) (f : Flips) {answer : Judgement} (is : of-judgement answer ≡ flips-outcome f) where
   -- it gives what is made of the flips that were loaded
-  pub gives : answer ≡ judgement.Accepted → {A : Type 0} (make : Scramble → A) {g : Flips} → g ≡ loaded f → {a : A} → a ≡ make (of-loaded shift g)
+  pub gives : answer ≡ judgement.Accepted → {A : Type 0} (make : Scramble → A) {g : Flips} → g ≡ flips-loaded f → {a : A} → a ≡ make (of-loaded shift g)
       → accepted a ≡ first (flips-tests f) (accepted (make (of-loaded shift f)))
   gives e make held made =
       ap accepted (made ∙ ap (λ (g : Flips). make (of-loaded shift g)) (flips-are f is e held)) ∙ sym (flips-pass f is e _)

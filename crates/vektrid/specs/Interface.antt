@@ -3,4 +3,4 @@ use Prim.Native.Nat.{ℕ}
 
 -- raised by hand with the header's VEKTRID_ABI, whose comment says when; tests hold the two together
 abbrev pub interface-number : ℕ
-interface-number = 4
+interface-number = 5

@@ -9,7 +9,7 @@ use word::Index;
 ghost use mathlib.Core.Path.{_≡_};
 ghost use Rattle.refusal.specs.Outcome.{part-left};
 ghost use Rattle.answers.specs.Answers.{answer-number, value-left};
-ghost use Rattle.pair_calls.specs.Calls.{pair-overview-outcome};
+ghost use Rattle.pair_calls.specs.Calls.{scramble-words, pair-overview-outcome};
 
 // The index of a block in each of many cells of one shape; 3 gives the shape's least index.
 #[no_mangle]
@@ -17,6 +17,8 @@ pub extern "C" fn vektrid_overview(
     words: &[u32],
     shift_x: u32,
     shift_y: u32,
+    flips_x: &[u8],
+    flips_y: &[u8],
     level: u32,
     m: u32,
     a: u32,
@@ -29,18 +31,18 @@ pub extern "C" fn vektrid_overview(
     ensures answer { λ r. ⌜
         r
         ≡ answer-number
-        (pair-overview-outcome (now (words .entry)) «shift_x» «shift_y» level m a block (now (columns .entry)) (now (rows .entry))
-        (now (answers .entry))) ⌝ }
+        (pair-overview-outcome (now (words .entry)) (scramble-words «shift_x» «shift_y» (now («flips_x» .entry)) (now («flips_y» .entry))) level m
+        a block (now (columns .entry)) (now (rows .entry)) (now (answers .entry))) ⌝ }
     ensures answers { λ _. ⌜
         now (answers .exit)
         ≡ part-left
-        (pair-overview-outcome (now (words .entry)) «shift_x» «shift_y» level m a block (now (columns .entry)) (now (rows .entry))
-        (now (answers .entry))) (λ is. is) (now (answers .entry)) ⌝ }
+        (pair-overview-outcome (now (words .entry)) (scramble-words «shift_x» «shift_y» (now («flips_x» .entry)) (now («flips_y» .entry))) level m
+        a block (now (columns .entry)) (now (rows .entry)) (now (answers .entry))) (λ is. is) (now (answers .entry)) ⌝ }
     ensures j { λ _. ⌜
         now (j .exit)
         ≡ value-left
-        (pair-overview-outcome (now (words .entry)) «shift_x» «shift_y» level m a block (now (columns .entry)) (now (rows .entry))
-        (now (answers .entry))) 2 (now (j .entry)) ⌝ }
+        (pair-overview-outcome (now (words .entry)) (scramble-words «shift_x» «shift_y» (now («flips_x» .entry)) (now («flips_y» .entry))) level m
+        a block (now (columns .entry)) (now (rows .entry)) (now (answers .entry))) 2 (now (j .entry)) ⌝ }
 {
     let answer = pair_answer(words);
     if answer != 0 {
@@ -53,6 +55,8 @@ pub extern "C" fn vektrid_overview(
             x: shift_x,
             y: shift_y,
         },
+        flips_x,
+        flips_y,
         level,
         m,
         a,

@@ -4,7 +4,7 @@ ghost use mathlib.Core.Path.{_≡_};
 ghost use Rattle.refusal.specs.Outcome.{part-left};
 ghost use Rattle.unit.specs.Word.{double, single};
 ghost use Rattle.answers.specs.Answers.{answer-number, step-words, left-in};
-ghost use Rattle.pair_calls.specs.Calls.{singles-outcome, two-singles, step-singles-outcome};
+ghost use Rattle.pair_calls.specs.Calls.{scramble-words, pair-singles-outcome, two-singles, pair-singles-step-outcome};
 
 // A word divided by 2^32, exactly.
 #[no_mangle]
@@ -28,15 +28,26 @@ pub extern "C" fn vektrid_point_singles(
     words: &[u32],
     shift_x: u32,
     shift_y: u32,
+    flips_x: &[u8],
+    flips_y: &[u8],
     index: Index,
     x: &mut f32,
     y: &mut f32,
 ) -> u32
-    ensures answer { λ r. ⌜ r ≡ answer-number (singles-outcome (now (words .entry)) «shift_x» «shift_y» index) ⌝ }
-    ensures x { λ _. ⌜ now (x .exit) ≡ part-left (singles-outcome (now (words .entry)) «shift_x» «shift_y» index) (λ p. p .x) (now (x .entry)) ⌝ }
-    ensures y { λ _. ⌜ now (y .exit) ≡ part-left (singles-outcome (now (words .entry)) «shift_x» «shift_y» index) (λ p. p .y) (now (y .entry)) ⌝ }
+    ensures answer { λ r. ⌜
+        r
+        ≡ answer-number (pair-singles-outcome (now (words .entry))
+        (scramble-words «shift_x» «shift_y» (now («flips_x» .entry)) (now («flips_y» .entry))) index) ⌝ }
+    ensures x { λ _. ⌜
+        now (x .exit)
+        ≡ part-left (pair-singles-outcome (now (words .entry))
+        (scramble-words «shift_x» «shift_y» (now («flips_x» .entry)) (now («flips_y» .entry))) index) (λ p. p .x) (now (x .entry)) ⌝ }
+    ensures y { λ _. ⌜
+        now (y .exit)
+        ≡ part-left (pair-singles-outcome (now (words .entry))
+        (scramble-words «shift_x» «shift_y» (now («flips_x» .entry)) (now («flips_y» .entry))) index) (λ p. p .y) (now (y .entry)) ⌝ }
 {
-    let found = pair_calls::point_singles(words, shift_x, shift_y, index, *x, *y);
+    let found = pair_calls::point_singles(words, shift_x, shift_y, flips_x, flips_y, index, *x, *y);
     *x = found.x;
     *y = found.y;
     found.answer
@@ -48,6 +59,8 @@ pub extern "C" fn vektrid_walk_step_singles(
     words: &[u32],
     shift_x: u32,
     shift_y: u32,
+    flips_x: &[u8],
+    flips_y: &[u8],
     next: &mut Index,
     left: &mut u64,
     given: &mut u32,
@@ -56,10 +69,13 @@ pub extern "C" fn vektrid_walk_step_singles(
     y: &mut f32,
 ) -> u32
     ensures answer { λ r. ⌜
-        r ≡ answer-number (step-singles-outcome (now (words .entry)) «shift_x» «shift_y» (now (next .entry)) (now (left .entry))) ⌝ }
+        r
+        ≡ answer-number (pair-singles-step-outcome (now (words .entry))
+        (scramble-words «shift_x» «shift_y» (now («flips_x» .entry)) (now («flips_y» .entry))) (now (next .entry)) (now (left .entry))) ⌝ }
     ensures words { λ _. ⌜
         step-words (now (next .exit)) (now (left .exit)) (now (given .exit)) (now (index .exit)) (two-singles (now (x .exit)) (now (y .exit)))
-        ≡ left-in (step-singles-outcome (now (words .entry)) «shift_x» «shift_y» (now (next .entry)) (now (left .entry)))
+        ≡ left-in (pair-singles-step-outcome (now (words .entry))
+        (scramble-words «shift_x» «shift_y» (now («flips_x» .entry)) (now («flips_y» .entry))) (now (next .entry)) (now (left .entry)))
         (λ v. v .index) (λ v. v .at)
         (step-words (now (next .entry)) (now (left .entry)) (now (given .entry)) (now (index .entry))
         (two-singles (now (x .entry)) (now (y .entry)))) ⌝ }
@@ -68,6 +84,8 @@ pub extern "C" fn vektrid_walk_step_singles(
         words,
         shift_x,
         shift_y,
+        flips_x,
+        flips_y,
         *next,
         *left,
         *given,

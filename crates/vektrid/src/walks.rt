@@ -8,7 +8,7 @@ ghost use Rattle.refusal.specs.Outcome.{part-left};
 ghost use Rattle.word.specs.Index.{index-count};
 ghost use Rattle.plan.specs.Walk.{open-outcome};
 ghost use Rattle.answers.specs.Answers.{answer-number, step-words, left-in};
-ghost use Rattle.pair_calls.specs.Calls.{step-outcome};
+ghost use Rattle.pair_calls.specs.Calls.{scramble-words, pair-step-outcome};
 
 // A walk over count visits from start on.
 #[no_mangle]
@@ -39,6 +39,8 @@ pub extern "C" fn vektrid_walk_step(
     words: &[u32],
     shift_x: u32,
     shift_y: u32,
+    flips_x: &[u8],
+    flips_y: &[u8],
     next: &mut Index,
     left: &mut u64,
     given: &mut u32,
@@ -47,16 +49,22 @@ pub extern "C" fn vektrid_walk_step(
     y: &mut u32,
 ) -> u32
     ensures answer { λ r. ⌜
-        r ≡ answer-number (step-outcome (now (words .entry)) «shift_x» «shift_y» (now (next .entry)) (now (left .entry))) ⌝ }
+        r
+        ≡ answer-number (pair-step-outcome (now (words .entry))
+        (scramble-words «shift_x» «shift_y» (now («flips_x» .entry)) (now («flips_y» .entry))) (now (next .entry)) (now (left .entry))) ⌝ }
     ensures words { λ _. ⌜
         step-words {P = ℕ × ℕ} (now (next .exit)) (now (left .exit)) (now (given .exit)) (now (index .exit)) (now (x .exit), now (y .exit))
-        ≡ left-in (step-outcome (now (words .entry)) «shift_x» «shift_y» (now (next .entry)) (now (left .entry))) (λ v. v .index) (λ v. (v .x, v .y))
+        ≡ left-in (pair-step-outcome (now (words .entry))
+        (scramble-words «shift_x» «shift_y» (now («flips_x» .entry)) (now («flips_y» .entry))) (now (next .entry)) (now (left .entry)))
+        (λ v. v .index) (λ v. (v .x, v .y))
         (step-words (now (next .entry)) (now (left .entry)) (now (given .entry)) (now (index .entry)) (now (x .entry), now (y .entry))) ⌝ }
 {
     let stepped = pair_calls::step(
         words,
         shift_x,
         shift_y,
+        flips_x,
+        flips_y,
         *next,
         *left,
         *given,

@@ -1,21 +1,35 @@
--- `points::point_singles`: once the pair is loaded, the outcome is accepted with what was made of the matrices (`gives`).
+-- `points::point_singles`: once the pair is loaded, the call comes to what was made of the matrices (`gives`).
 -- Assumes nothing.
+use mathlib.Core.Path.{_≡_, ap, _∙_}
 use borrow.Author.Needs.{needs}
-use Rattle.net.specs.Sequence.{point}
 use Rattle.refusal.proofs.First.{refused-leaves, accepted-hands}
-use Rattle.plan.specs.Pair.{sequence}
-use Rattle.unit.specs.Singles.{singles-of}
+use Rattle.plan.specs.declared.points.Scramble.{Scramble}
+use Rattle.unit.specs.Singles.{singles-outcome, of-pointed-singles}
 use Rattle.answers.proofs.Outcomes.{refused-answer, accepted-answer}
+use Rattle.pair_calls.specs.Calls.{scramble-words, pair-singles-outcome}
 use Rattle.pair_calls.proofs.Loading.{stops, gives}
 use Rattle.pair_calls.proofs.points.point_singles.Statement.{statement}
 use Rattle.pair_calls.proofs.points.point_singles.Tie as tie
+
+abbrev scramble : tie.Start → Scramble
+scramble s = let a = s .args in scramble-words (a .shift-x) (a .shift-y) (a .flips-x .now) (a .flips-y .now)
+
+-- what was made of the loaded matrices is what the call comes to
+made : (c : tie.After-singles-at) → let s = c .before .before .before .before .before .before .before in
+    pair-singles-outcome (s .args .words .now) (scramble s) (s .args .index) ≡ of-pointed-singles (c .singles-at .result)
+made c =
+    let l = c .before in
+    let n = l .before in
+    let s = n .before .before .before .before .before in
+    gives (s .args .words .now) (n .before .pair-answer .ensures) (n .if1 .left) (λ P. singles-outcome P (scramble s) (s .args .index))
+    (l .pair-plan .ensures) (c .singles-at .ensures)
 
 pair-answer-requires : tie.Need-pair-answer-requires
 pair-answer-requires c κs = search needs
 
 returns : tie.Need-returns
 returns c =
-    let e = stops (c .before .before .before .args .words .now) (c .before .pair-answer .ensures) _ (c .if1 .taken) in
+    let e = stops (c .before .before .before .before .before .args .words .now) (c .before .pair-answer .ensures) _ (c .if1 .taken) in
     (refused-answer e, (refused-leaves (λ p. p .x) _ e, refused-leaves (λ p. p .y) _ e))
 
 pair-plan-requires : tie.Need-pair-plan-requires
@@ -24,16 +38,35 @@ pair-plan-requires c κs = search needs
 singles-at-requires : tie.Need-singles-at-requires
 singles-at-requires c κs = search needs
 
+enum-known-pointed : tie.Need-enum-known-pointed
+enum-known-pointed c = search needs
+
+number-requires : tie.Need-number-requires
+number-requires c κs = search needs
+
+enum-known-pointed-2 : tie.Need-enum-known-pointed-2
+enum-known-pointed-2 c = search needs
+
 returns-2 : tie.Need-returns-2
 returns-2 c =
-    let l = c .before in
-    let a = l .before .before .before .before .args in
-    let n = l .before .before .pair-answer .ensures in
-    let e = gives (a .words .now) n (l .before .if1 .left)
-    (λ P. singles-of (point (sequence P (record { x = a .shift-x; y = a .shift-y })) (a .index)))
-    (l .pair-plan .ensures) (c .singles-at .ensures) in
+    let e = made (c .before .before .before .before) ∙ ap of-pointed-singles (c .before .before .pointed .given .1) in
+    (c .number .ensures ∙ refused-answer e, (refused-leaves (λ p. p .x) _ e, refused-leaves (λ p. p .y) _ e))
+
+returns-3 : tie.Need-returns-3
+returns-3 c =
+    let e = made (c .before .before .before) ∙ ap of-pointed-singles (c .before .pointed2 .given .1) in
     (accepted-answer e, (accepted-hands (λ p. p .x) _ e, accepted-hands (λ p. p .y) _ e))
 
 pub point-singles-spec : {M : Type 1} → statement M
 point-singles-spec =
-    tie.close (tie.spec pair-answer-requires returns pair-plan-requires singles-at-requires returns-2)
+    tie.close
+    (tie.spec
+    pair-answer-requires
+    returns
+    pair-plan-requires
+    singles-at-requires
+    enum-known-pointed
+    number-requires
+    enum-known-pointed-2
+    returns-2
+    returns-3)

@@ -1,45 +1,39 @@
--- `queries::query`: once the pair is loaded the outcome is the query's (`answered`), and of its refusals only 3 has values (`no-values`).
+-- `queries::query`: once the pair is loaded the outcome is the query's (`located`), and of its refusals only 3 has values (`no-values`).
 -- Assumes nothing.
-use mathlib.Core.Path.{_≡_, sym, ap, _∙_}
-use mathlib.Core.List.{List}
-use Prim.Native.Nat.{ℕ}
+use mathlib.Core.Path.{_≡_, ap, _∙_}
 use borrow.Author.Needs.{needs}
-use Rattle.refusal.specs.Outcome.{Outcome, refused}
+use Rattle.refusal.specs.Outcome.{refused}
 use Rattle.refusal.specs.Refusal.{number, of-refusal}
 use Rattle.refusal.proofs.First.{refused-leaves, accepted-hands}
-use Rattle.plan.specs.declared.pair.Plan.{Plan}
-use Rattle.plan.specs.Pair.{load-outcome, loaded}
+use Rattle.plan.specs.declared.points.Scramble.{Scramble}
 use Rattle.stratify.specs.Answers.{query-outcome, of-located}
-use Rattle.answers.specs.Answers.{answer-number}
 use Rattle.answers.proofs.Outcomes.{refused-answer, refused-gives, accepted-answer, accepted-leaves}
 use Rattle.answers.proofs.Refusals.{no-values}
-use Rattle.pair_calls.specs.Calls.{pair-query-outcome}
-use Rattle.pair_calls.proofs.Loading.{stops, goes-on}
+use Rattle.pair_calls.specs.Calls.{scramble-words, pair-query-outcome}
+use Rattle.pair_calls.proofs.Loading.{stops, gives}
 use Rattle.pair_calls.proofs.queries.query.Statement.{statement}
 use Rattle.pair_calls.proofs.queries.query.Tie as tie
 
--- what a query of the loaded matrices came to is what the call comes to
-answered : (words : List ℕ) (x y level m a c r k : ℕ) {n : ℕ} → n ≡ answer-number (load-outcome words) → n ≡ 0 → {plan : Plan} → plan ≡ loaded words
-    → {o : Outcome ℕ} → o ≡ query-outcome plan (record { x = x; y = y }) level m a k c r → pair-query-outcome words x y level m a c r k ≡ o
-answered words x y level m a c r k is none loads found =
-    goes-on words is _ none ∙ sym (found ∙ ap (λ (P : Plan). query-outcome P (record { x = x; y = y }) level m a k c r) loads)
+abbrev scramble : tie.Start → Scramble
+scramble s = let a = s .args in scramble-words (a .shift-x) (a .shift-y) (a .flips-x .now) (a .flips-y .now)
 
-located : (c : tie.After-query) → let a = c .before .before .before .before .before .args in
-    pair-query-outcome (a .words .now) (a .shift-x) (a .shift-y) (a .level) (a .m) (a .a) (a .column) (a .row) (a .block)
-    ≡ of-located (c .query .result)
+-- what a query of the loaded matrices came to is what the call comes to
+located : (c : tie.After-query) → let s = c .before .before .before .before .before .before .before in let a = s .args in
+    pair-query-outcome (a .words .now) (scramble s) (a .level) (a .m) (a .a) (a .column) (a .row) (a .block) ≡ of-located (c .query .result)
 located c =
     let l = c .before in
     let n = l .before in
-    let a = n .before .before .before .args in
-    answered (a .words .now) (a .shift-x) (a .shift-y) (a .level) (a .m) (a .a) (a .column) (a .row) (a .block) (n .before .pair-answer .ensures)
-    (n .if1 .left) (l .pair-plan .ensures) (c .query .ensures)
+    let s = n .before .before .before .before .before in
+    let a = s .args in
+    gives (a .words .now) (n .before .pair-answer .ensures) (n .if1 .left)
+    (λ P. query-outcome P (scramble s) (a .level) (a .m) (a .a) (a .block) (a .column) (a .row)) (l .pair-plan .ensures) (c .query .ensures)
 
 pair-answer-requires : tie.Need-pair-answer-requires
 pair-answer-requires c κs = search needs
 
 returns : tie.Need-returns
 returns c =
-    let e = stops (c .before .before .before .args .words .now) (c .before .pair-answer .ensures) _ (c .if1 .taken) in
+    let e = stops (c .before .before .before .before .before .args .words .now) (c .before .pair-answer .ensures) _ (c .if1 .taken) in
     (refused-answer e, (refused-leaves (λ i. i) _ e, refused-gives e 2 _))
 
 pair-plan-requires : tie.Need-pair-plan-requires

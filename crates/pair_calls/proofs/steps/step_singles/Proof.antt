@@ -1,27 +1,45 @@
--- `steps::step_singles`: the laws of Stepping, by whether the pair is refused, the walk has ended, or there is a visit.
+-- `steps::step_singles`: the laws of Stepping, by whether the call is refused, the walk has ended, or there is a visit.
 -- Assumes nothing.
-use mathlib.Core.Path.{ap}
+use mathlib.Core.Path.{_≡_, refl, ap, _∙_}
+use Prim.Native.Nat.{ℕ}
 use borrow.Author.Needs.{needs}
+use Rattle.refusal.specs.Outcome.{Outcome}
+use Rattle.plan.specs.declared.points.Scramble.{Scramble}
+use Rattle.plan.specs.Walk.{of-walk}
 use Rattle.unit.specs.declared.pairs.Singles.{Singles}
-use Rattle.unit.specs.Singles.{visit-singles, of-singles-step}
+use Rattle.unit.specs.Singles.{of-singles-step, singles-step-outcome}
 use Rattle.answers.specs.Answers.{StepWords, step-words}
-use Rattle.pair_calls.specs.Calls.{two-singles}
-use Rattle.pair_calls.proofs.Stepping.{step-refused, step-visited, step-ended}
+use Rattle.pair_calls.specs.Calls.{scramble-words, two-singles, pair-singles-step-outcome}
+use Rattle.pair_calls.proofs.Loading.{stops, gives}
+use Rattle.pair_calls.proofs.Stepping.{step-refused, step-stops, step-visited, step-ended}
 use Rattle.pair_calls.proofs.steps.step_singles.Statement.{statement}
 use Rattle.pair_calls.proofs.steps.step_singles.Tie as tie
 
+abbrev scramble : tie.Start → Scramble
+scramble s = let a = s .args in scramble-words (a .shift-x) (a .shift-y) (a .flips-x .now) (a .flips-y .now)
+
 -- the words that came in
-abbrev held : tie.Start → StepWords Singles
+abbrev held : tie.Start → StepWords (Singles)
 held s = let a = s .args in step-words (a .next) (a .left) (a .given) (a .index) (two-singles (a .x) (a .y))
+
+-- the call comes to the step with the loaded matrices
+made : (c : tie.After-step-singles) → let s = c .before .before .before .before .before .before .before in
+    pair-singles-step-outcome (s .args .words .now) (scramble s) (s .args .next) (s .args .left)
+    ≡ singles-step-outcome (c .before .pair-plan .result) (scramble s) (record { next = s .args .next; left = s .args .left })
+made c =
+    let l = c .before in
+    let n = l .before in
+    let s = n .before .before .before .before .before in
+    gives (s .args .words .now) (n .before .pair-answer .ensures) (n .if1 .left)
+    (λ P. singles-step-outcome P (scramble s) (record { next = s .args .next; left = s .args .left })) (l .pair-plan .ensures) refl
 
 pair-answer-requires : tie.Need-pair-answer-requires
 pair-answer-requires c κs = search needs
 
 returns : tie.Need-returns
 returns c =
-    let s = c .before .before .before in
-    step-refused visit-singles (λ v. v .index) (λ v. v .at) (s .args .words .now) (s .args .shift-x) (s .args .shift-y) (held s)
-    (c .before .pair-answer .ensures) (c .if1 .taken)
+    let s = c .before .before .before .before .before in
+    step-refused (λ v. v .index) (λ v. v .at) (held s) (stops (s .args .words .now) (c .before .pair-answer .ensures) _ (c .if1 .taken))
 
 pair-plan-requires : tie.Need-pair-plan-requires
 pair-plan-requires c κs = search needs
@@ -32,26 +50,34 @@ step-singles-requires c κs = search needs
 enum-known-step : tie.Need-enum-known-step
 enum-known-step c = search needs
 
+number-requires : tie.Need-number-requires
+number-requires c κs = search needs
+
 enum-told : tie.Need-enum-told
 enum-told c = search needs
 
+enum-known-step-2 : tie.Need-enum-known-step-2
+enum-known-step-2 c = search needs
+
 returns-2 : tie.Need-returns-2
 returns-2 c =
-    let t = c .before .before .before in
-    let n = t .before .before in
-    let s = n .before .before .before in
-    step-ended visit-singles (λ v. v .index) (λ v. v .at) (s .args .words .now) (s .args .shift-x) (s .args .shift-y) (held s)
-    (n .before .pair-answer .ensures) (n .if1 .left) (t .before .pair-plan .ensures) (t .step-singles .ensures)
-    (ap of-singles-step (c .enum-told .given .1))
+    let t = c .before .before .before .before .before in
+    let s = t .before .before .before .before .before .before .before in
+    let (number, words) = step-stops (λ v. v .index) (λ v. v .at) (held s) (made t) (t .step-singles .ensures .0) (t .step-singles .ensures .1)
+    (ap of-singles-step (c .before .before .step .given .1)) in
+    (c .number .ensures ∙ number, words)
 
 returns-3 : tie.Need-returns-3
 returns-3 c =
+    let t = c .before .before .before in
+    let s = t .before .before .before .before .before .before .before in
+    step-ended (λ v. v .index) (λ v. v .at) (held s) (made t) (t .step-singles .ensures .0) (t .step-singles .ensures .1) (ap of-singles-step (c .enum-told .given .1))
+
+returns-4 : tie.Need-returns-4
+returns-4 c =
     let t = c .before .before .before .before .before in
-    let n = t .before .before in
-    let s = n .before .before .before in
-    step-visited visit-singles (λ v. v .index) (λ v. v .at) (s .args .words .now) (s .args .shift-x) (s .args .shift-y) (held s)
-    (n .before .pair-answer .ensures) (n .if1 .left) (t .before .pair-plan .ensures) (t .step-singles .ensures)
-    (ap of-singles-step (c .before .before .step .given .1))
+    let s = t .before .before .before .before .before .before .before in
+    step-visited (λ v. v .index) (λ v. v .at) (held s) (made t) (t .step-singles .ensures .0) (t .step-singles .ensures .1) _ (ap of-singles-step (c .before .before .step2 .given .1))
 
 pub step-singles-spec : {M : Type 1} → statement M
 step-singles-spec =
@@ -62,6 +88,9 @@ step-singles-spec =
     pair-plan-requires
     step-singles-requires
     enum-known-step
+    number-requires
     enum-told
+    enum-known-step-2
     returns-2
-    returns-3)
+    returns-3
+    returns-4)

@@ -8,11 +8,12 @@ use Rattle.refusal.specs.Outcome.{Outcome, then}
 use Rattle.refusal.proofs.First.{granted-accepted, granted-refused}
 use Rattle.word.specs.Index.{index-count}
 use Rattle.plan.specs.declared.pair.Plan.{Plan}
+use Rattle.plan.specs.declared.points.Scramble.{Scramble}
 use Rattle.plan.specs.Pair.{sequence, load-outcome, loaded}
 use Rattle.plan.specs.Fill.{Buffers, fill-outcome, filled}
 use Rattle.answers.specs.Answers.{answer-number}
 use Rattle.answers.proofs.Outcomes.{refused-answer}
-use Rattle.pair_calls.specs.Calls.{pair-filled}
+use Rattle.pair_calls.specs.Calls.{scramble-words, pair-filled}
 use Rattle.pair_calls.proofs.Loading.{load-refused, load-accepted, stops, goes-on}
 use Rattle.vektrid.proofs.fills.vektrid_fill.Statement.{statement}
 use Rattle.vektrid.proofs.fills.vektrid_fill.Tie as tie
@@ -23,11 +24,11 @@ answered : (words : List ℕ) (fill : Outcome Unit) {n : ℕ} → n ≡ answer-n
 answered words fill is none came number = number ∙ ap answer-number (came ∙ sym (goes-on words is fill none))
 
 -- a buffer that was filled from the loaded matrices holds what the call leaves in it
-buffer : (one : Buffers → List ℕ) (words : List ℕ) (x y start : ℕ) (xs ys : List ℕ) {n : ℕ} → n ≡ answer-number (load-outcome words) → n ≡ 0
-    → {plan : Plan} → plan ≡ loaded words → {new : List ℕ} → new ≡ one (filled index-count (sequence plan (record { x = x; y = y })) start xs ys)
-    → new ≡ one (pair-filled words x y start xs ys)
-buffer one words x y start xs ys is none loads holds =
-    holds ∙ ap (λ (P : Plan). one (filled index-count (sequence P (record { x = x; y = y })) start xs ys)) loads
+buffer : (one : Buffers → List ℕ) (words : List ℕ) (s : Scramble) (start : ℕ) (xs ys : List ℕ) {n : ℕ} → n ≡ answer-number (load-outcome words)
+    → n ≡ 0 → {plan : Plan} → plan ≡ loaded words → {new : List ℕ} → new ≡ one (filled index-count (s .flips) (sequence plan s) start xs ys)
+    → new ≡ one (pair-filled words s start xs ys)
+buffer one words s start xs ys is none loads holds =
+    holds ∙ ap (λ (P : Plan). one (filled index-count (s .flips) (sequence P s) start xs ys)) loads
     ∙ ap one (sym (granted-accepted _ _ (load-accepted words is none)))
 
 pair-answer-requires : tie.Need-pair-answer-requires
@@ -35,7 +36,7 @@ pair-answer-requires c κs = search needs
 
 returns : tie.Need-returns
 returns c =
-    let w = c .before .before .before .before .before .args .words .now in
+    let w = c .before .before .before .before .before .before .before .args .words .now in
     let n = c .before .pair-answer .ensures in
     let kept = granted-refused _ _ (load-refused w n (c .if1 .taken)) in
     (refused-answer (stops w n _ (c .if1 .taken)), (sym (ap (λ (b : Buffers). b .x) kept), sym (ap (λ (b : Buffers). b .y) kept)))
@@ -59,14 +60,15 @@ returns-2 : tie.Need-returns-2
 returns-2 c =
     let d = c .before .before .before .before .before in
     let l = d .before .before .before in
-    let a = l .before .before .before .before .before .before .args in
+    let a = l .before .before .before .before .before .before .before .before .args in
+    let s = scramble-words (a .shift-x) (a .shift-y) (a .flips-x .now) (a .flips-y .now) in
     let n = l .before .before .pair-answer .ensures in
     let none = l .before .if1 .left in (
-      answered (a .words .now) (fill-outcome index-count (a .start) (a .xs .now) (a .ys .now)) n none (d .fill .ensures .0) (c .number-of .ensures),
+      answered (a .words .now) (fill-outcome index-count (s .flips) (a .start) (a .xs .now) (a .ys .now)) n none (d .fill .ensures .0) (c .number-of .ensures),
       (
-        buffer (λ b. b .x) (a .words .now) (a .shift-x) (a .shift-y) (a .start) (a .xs .now) (a .ys .now) n none (l .pair-plan .ensures)
+        buffer (λ b. b .x) (a .words .now) s (a .start) (a .xs .now) (a .ys .now) n none (l .pair-plan .ensures)
             (d .fill .ensures .1 .0),
-        buffer (λ b. b .y) (a .words .now) (a .shift-x) (a .shift-y) (a .start) (a .xs .now) (a .ys .now) n none (l .pair-plan .ensures)
+        buffer (λ b. b .y) (a .words .now) s (a .start) (a .xs .now) (a .ys .now) n none (l .pair-plan .ensures)
             (d .fill .ensures .1 .1),
       ),
     )
