@@ -4,7 +4,7 @@ use crate::positions;
 use crate::print;
 use crate::units;
 use plan::Plan;
-use plan::Shift;
+use plan::Scramble;
 use stratify::Located;
 
 pub enum Section {
@@ -23,6 +23,9 @@ pub enum Section {
     Largest,
     // The unit numbers of a word about a power of two.
     Units,
+    // The point of an index, and the query of each cell of the shape (4, 2) in block 5, under flips.
+    Flipped,
+    FlippedCells,
     // The position and the singles of an index.
     FirstVisits,
     SecondVisits,
@@ -48,21 +51,31 @@ fn line(section: Section, i: u32) {
         Section::Cells { m } => cell_line(m, i),
         Section::Largest => query_line(pairs::other(), pairs::other_shift(), 32, 32, i, 0, 0, 0),
         Section::Units => units::unit_line(i),
+        Section::Flipped => other_line(pairs::flipped(), i),
+        Section::FlippedCells => {
+            query_line(pairs::other(), pairs::flipped(), 32, 4, 2, i / 4, i % 4, 5)
+        }
         Section::FirstVisits => positions::first_visit_line(i),
         Section::SecondVisits => positions::second_visit_line(i),
     }
 }
 
 // The fast way, which is promised to be the matrix way.
-fn standard_line(shift: Shift, index: u32) {
+fn standard_line(scramble: Scramble, index: u32) {
+    let flips = scramble.flips;
+    let x = flips.x;
+    let y = flips.y;
     print::number(index);
-    print::point_line(Plan::standard_point(shift, index));
+    print::pointed_line(Plan::standard_point(scramble.shift, &x, &y, index));
 }
 
-fn other_line(shift: Shift, index: u32) {
+fn other_line(scramble: Scramble, index: u32) {
     let plan = pairs::other();
+    let flips = scramble.flips;
+    let x = flips.x;
+    let y = flips.y;
     print::number(index);
-    print::point_line(plan.point(shift, index));
+    print::pointed_line(plan.point(scramble.shift, &x, &y, index));
 }
 
 fn gap_x_line(c: u32) {
@@ -119,7 +132,7 @@ fn cell_line(m: u32, i: u32) {
 
 pub fn query_line(
     plan: Plan,
-    shift: Shift,
+    scramble: Scramble,
     level: u32,
     m: u32,
     a: u32,
@@ -132,7 +145,21 @@ pub fn query_line(
     print::number(column);
     print::number(row);
     print::number(block);
-    let answer = stratify::query(plan, shift, level, m, a, column, row, block);
+    let flips = scramble.flips;
+    let x = flips.x;
+    let y = flips.y;
+    let answer = stratify::query(
+        plan,
+        scramble.shift,
+        &x,
+        &y,
+        level,
+        m,
+        a,
+        column,
+        row,
+        block,
+    );
     match answer {
         Located::Found(index) => {
             print::text(b"found ");

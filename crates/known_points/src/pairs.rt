@@ -1,5 +1,8 @@
-// The pairs, as 64 words each, and the shifts that the comparison uses.
+// The pairs, as 64 words each, and the shifts and flips that the comparison uses.
+use flips::AxisFlips;
+use flips::Flips;
 use plan::Plan;
+use plan::Scramble;
 use plan::Shift;
 
 // The standard pair.
@@ -236,22 +239,107 @@ fn plan_of(words: [u32; 64]) -> Plan {
     loaded.plan
 }
 
-pub fn no_shift() -> Shift {
-    Shift { x: 0, y: 0 }
+pub fn no_shift() -> Scramble {
+    Scramble::of_shift(Shift { x: 0, y: 0 })
 }
 
 // The shift of the standard pair's points.
-pub fn first_shift() -> Shift {
-    Shift {
+pub fn first_shift() -> Scramble {
+    Scramble::of_shift(Shift {
         x: 305419896,
         y: 2596069104,
-    }
+    })
 }
 
 // The shift of all other sections.
-pub fn other_shift() -> Shift {
-    Shift {
+pub fn other_shift() -> Scramble {
+    Scramble::of_shift(Shift {
         x: 2779096485,
         y: 1515870810,
+    })
+}
+
+// Byte i is 37 * i + 11 modulo 256, and flip bit 255 is not set.
+const FLIPS_X: AxisFlips = [
+    11,
+    48,
+    85,
+    122,
+    159,
+    196,
+    233,
+    14,
+    51,
+    88,
+    125,
+    162,
+    199,
+    236,
+    17,
+    54,
+    91,
+    128,
+    165,
+    202,
+    239,
+    20,
+    57,
+    94,
+    131,
+    168,
+    205,
+    242,
+    23,
+    60,
+    97,
+    6,
+];
+
+// The same with 101 * i + 7.
+const FLIPS_Y: AxisFlips = [
+    7,
+    108,
+    209,
+    54,
+    155,
+    0,
+    101,
+    202,
+    47,
+    148,
+    249,
+    94,
+    195,
+    40,
+    141,
+    242,
+    87,
+    188,
+    33,
+    134,
+    235,
+    80,
+    181,
+    26,
+    127,
+    228,
+    73,
+    174,
+    19,
+    120,
+    221,
+    66,
+];
+
+// The other shift with flips.
+pub fn flipped() -> Scramble {
+    let shifted = other_shift();
+    let shift = shifted.shift;
+    Scramble {
+        shift,
+        flips: Flips {
+            x: FLIPS_X,
+            y: FLIPS_Y,
+        },
     }
 }

@@ -1,9 +1,9 @@
 // Positions in regions: of the first visits of the standard pair with their singles, of single words, and of those with a reader's field.
 use crate::pairs;
 use crate::print;
-use crate::units::singles_line;
+use crate::units::pointed_singles_line;
 use plan::Plan;
-use plan::Shift;
+use plan::Scramble;
 use stage::Field;
 use stage::Placed;
 use stage::Region;
@@ -20,9 +20,12 @@ fn position_fields(region: Region, field: Field, x: u32, y: u32, last: u8) {
     }
 }
 
-fn visit_line(region: Region, shift: Shift, index: u32) {
+fn visit_line(region: Region, scramble: Scramble, index: u32) {
     let plan = Plan::standard();
-    let at = plan.point(shift, index);
+    let at = plan.scrambled_point(scramble, index);
+    let flips = scramble.flips;
+    let x = flips.x;
+    let y = flips.y;
     print::number(index);
     position_fields(
         region,
@@ -34,7 +37,7 @@ fn visit_line(region: Region, shift: Shift, index: u32) {
         at.y,
         b' ',
     );
-    singles_line(unit::singles_at(plan, shift, index));
+    pointed_singles_line(unit::singles_at(plan, scramble.shift, &x, &y, index));
 }
 
 pub fn first_visit_line(index: u32) {

@@ -1,5 +1,6 @@
 // Text, numbers and answers to standard output. A write that fails shows as a difference in the comparison.
 use plan::Point;
+use plan::Pointed;
 use refusal::Judgement;
 use refusal::Refusal;
 use signed::unsigned_abs;
@@ -35,6 +36,14 @@ pub fn signed_number(z: i32, last: u8) {
 pub fn point_line(at: Point) {
     number(at.x);
     last_number(at.y);
+}
+
+// The point, or the line of its refusal.
+pub fn pointed_line(answer: Pointed) {
+    match answer {
+        Pointed::At(at) => point_line(at),
+        Pointed::Refused(why) => refusal_line(why),
+    }
 }
 
 // The number of a refusal, with m, a and j for 3.

@@ -90,7 +90,11 @@ const MARK: u32 = 3735928559;
 fn fill_line(start: u32, xs: &mut [u32], ys: &mut [u32]) {
     print::number(start);
     print::number((xs.len() % 4294967296) as u32);
-    let answer = plan::fill(pairs::other(), pairs::other_shift(), start, xs, ys);
+    let scramble = pairs::other_shift();
+    let flips = scramble.flips;
+    let x = flips.x;
+    let y = flips.y;
+    let answer = plan::fill(pairs::other(), scramble.shift, &x, &y, start, xs, ys);
     print::judgement_line(answer, b"done");
 }
 
@@ -127,7 +131,11 @@ pub fn fills() {
 
 // One step: prints the visit or the end, and hands back the walk after it.
 fn step_line(walk: Walk) -> Walk {
-    let stepped = walk.step(pairs::other(), pairs::other_shift());
+    let scramble = pairs::other_shift();
+    let flips = scramble.flips;
+    let x = flips.x;
+    let y = flips.y;
+    let stepped = walk.step(pairs::other(), scramble.shift, &x, &y);
     let step = stepped.step;
     match step {
         Step::Visited(visit) => {
@@ -136,6 +144,7 @@ fn step_line(walk: Walk) -> Walk {
             print::last_number(visit.y);
         }
         Step::Ended => print::text(b"ended\n"),
+        Step::Refused(why) => print::refusal_line(why),
     }
     stepped.walk
 }

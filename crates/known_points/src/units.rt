@@ -4,6 +4,7 @@ use crate::print;
 use plan::Opened;
 use plan::Plan;
 use plan::Walk;
+use unit::PointedSingles;
 use unit::Precision;
 use unit::Singles;
 use unit::SinglesStep;
@@ -31,9 +32,17 @@ fn bits(number: Unit) -> u64 {
     }
 }
 
-pub fn singles_line(at: Singles) {
+fn singles_line(at: Singles) {
     print::number(single_bits(at.x));
     print::last_number(single_bits(at.y));
+}
+
+// The singles of an index, or the line of their refusal.
+pub fn pointed_singles_line(answer: PointedSingles) {
+    match answer {
+        PointedSingles::At(at) => singles_line(at),
+        PointedSingles::Refused(why) => print::refusal_line(why),
+    }
 }
 
 // Three lines for each power p of two, p - 1, p and p + 1, and as line 96 the last word.
@@ -47,7 +56,11 @@ pub fn unit_line(i: u32) {
 
 // One step: prints the visit or the end, and hands back the walk after it.
 fn step_line(walk: Walk) -> Walk {
-    let stepped = unit::step_singles(walk, Plan::standard(), pairs::first_shift());
+    let scramble = pairs::first_shift();
+    let flips = scramble.flips;
+    let x = flips.x;
+    let y = flips.y;
+    let stepped = unit::step_singles(walk, Plan::standard(), scramble.shift, &x, &y);
     let step = stepped.step;
     match step {
         SinglesStep::Visited(visit) => {
@@ -55,6 +68,7 @@ fn step_line(walk: Walk) -> Walk {
             singles_line(visit.at);
         }
         SinglesStep::Ended => print::text(b"ended\n"),
+        SinglesStep::Refused(why) => print::refusal_line(why),
     }
     stepped.walk
 }

@@ -12,9 +12,11 @@ use Rattle.net.specs.Generators.{product}
 use Rattle.net.specs.Shape.{matrix}
 use Rattle.net.specs.Check.{least-index, first-a, first-m, check}
 use Rattle.net.specs.Query.{visit-index, locate}
+use Rattle.net.specs.Scrambling.{nested}
 use Rattle.net.proofs.Standard.{iterate, add-down, iterated}
 use Rattle.net.proofs.Columns.{standard-is}
 use Rattle.refusal.specs.Outcome.{first, granted}
+use Rattle.flips.specs.Flips.{flip-bit, flip-at}
 use Rattle.plan.specs.declared.pair.Plan.{Plan}
 use Rattle.plan.specs.Pair.{of-matrices}
 use Rattle.known_table.specs.Known.{Holds, table, KnownPoints}
@@ -25,7 +27,7 @@ fast = of-matrices (iterated 2 32 32)
 
 computed : Each (Holds fast) table
 unfolding fast iterate add-down digitwise plus times sum skip det product matrix search least-index first-a first-m check
-    visit-index locate first granted leadingZeros ofBits toBits
+    visit-index locate nested flip-at flip-bit first granted leadingZeros ofBits toBits
 computed = (refl, (refl, (refl, (refl, (refl, (refl, (refl, (refl, (refl, (refl, (refl, tt)))))))))))
 
 pub known : KnownPoints

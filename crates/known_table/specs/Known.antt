@@ -8,8 +8,8 @@ use Rattle.ranges.specs.Each.{Each}
 use Rattle.net.specs.Sequence.{point}
 use Rattle.refusal.specs.Outcome.{accepted, not-net}
 use Rattle.plan.specs.declared.pair.Plan.{Plan}
-use Rattle.plan.specs.declared.points.Shift.{Shift}
-use Rattle.plan.specs.Pair.{sequence, standard-pair, largest-level}
+use Rattle.plan.specs.declared.points.Scramble.{Scramble}
+use Rattle.plan.specs.Pair.{only-shift, sequence, standard-pair, largest-level}
 use Rattle.stratify.specs.Answers.{check-outcome, query-outcome}
 use Rattle.unit.specs.Word.{single}
 
@@ -23,8 +23,8 @@ pub data Known : Type 0 where
   -- the bits of the single of a word
   single-of : (word bits : ℕ) → Known
 
-abbrev pub shift-by : ℕ → Shift
-shift-by s = record { x = s; y = 0 }
+abbrev pub shift-by : ℕ → Scramble
+shift-by s = only-shift (record { x = s; y = 0 })
 
 -- what an entry says of a plan P; `KnownPoints` takes the standard pair
 abbrev pub Holds : Plan → Known → Type 0
