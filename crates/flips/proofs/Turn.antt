@@ -6,14 +6,14 @@ use native.Mathlib.Nat.{pow-suc, pow-zero, div-div-eq-div-mul, div-eq-of-lt, pow
 use native.Mathlib.Numerals.{add-one}
 use native.Mathlib.Omega.{arith}
 use lib.Bits.{bitXor}
-use Rattle.digits.proofs.Digit.{div-lt, pow-pos}
 use Rattle.digits.specs.Digits.{plus}
+use Rattle.digits.proofs.Digit.{div-lt, pow-pos}
 use Rattle.digits.proofs.Arithmetic.{plus-zero, plus-step, plus-join}
 use Rattle.digits.proofs.Two.{one-lt-two, plus-two}
 use Rattle.net.specs.Sequence.{top}
 use Rattle.net.specs.Scrambling.{nested, adding, unnested, taking}
-use Rattle.flips.specs.Flips.{flip-bit, flip-at, flipped, unflipped}
 use Rattle.net.proofs.Scrambling.{nested-rest, unnested-lt, unnested-rest}
+use Rattle.flips.specs.Flips.{flip-bit, flip-at, flipped, unflipped}
 use Rattle.flips.proofs.Flips.{flip-bit-lt, at, deep, permutes, leads, passes, passes-back, node-lt}
 
 -- the node of the t bits p, in the tree numbered from its root

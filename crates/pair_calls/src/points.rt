@@ -112,10 +112,10 @@ pub fn point_singles(
             x,
             y,
         },
-        PointedSingles::At(point) => SinglesAnswer {
+        PointedSingles::At(singles) => SinglesAnswer {
             answer: 0,
-            x: point.x,
-            y: point.y,
+            x: singles.x,
+            y: singles.y,
         },
     }
 }

@@ -81,7 +81,8 @@ module _ (C flips : List ℕ) (s : ℕ) (words : Below (2 ^ 32) C) (start n : �
   axis-shifted none = λ i. map (λ k. sym (shift-left flips s none (product 2 C k) (product-fits k)) i) (range start n)
 
   -- and else the products are scrambled, to which nothing was added
-  pub axis-flipped : map (scramble-word flips s) (map (product-added C 0) (range start n)) ≡ map (coordinate 2 C (scramble-word flips s)) (range start n)
+  pub axis-flipped : map (scramble-word flips s) (map (product-added C 0) (range start n))
+      ≡ map (coordinate 2 C (scramble-word flips s)) (range start n)
   axis-flipped =
       map-map (scramble-word flips s) (product-added C 0) (range start n)
       ∙ (λ i. map (λ k. scramble-word flips s (plus-zero one-lt-two (product 2 C k) i)) (range start n))

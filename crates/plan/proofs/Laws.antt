@@ -42,8 +42,8 @@ of-loaded shift g = record { shift = shift; flips = g }
 
 module _ (shift : Shift) (f : Flips) {answer : Judgement} (is : of-judgement answer ≡ flips-outcome f) where
   -- it gives what is made of the flips that were loaded
-  pub gives : answer ≡ judgement.Accepted → {A : Type 0} (make : Scramble → A) {g : Flips} → g ≡ flips-loaded f → {a : A} → a ≡ make (of-loaded shift g)
-      → accepted a ≡ first (flips-tests f) (accepted (make (of-loaded shift f)))
+  pub gives : answer ≡ judgement.Accepted → {A : Type 0} (make : Scramble → A) {g : Flips} → g ≡ flips-loaded f → {a : A}
+      → a ≡ make (of-loaded shift g) → accepted a ≡ first (flips-tests f) (accepted (make (of-loaded shift f)))
   gives e make held made =
       ap accepted (made ∙ ap (λ (g : Flips). make (of-loaded shift g)) (flips-are f is e held)) ∙ sym (flips-pass f is e _)
 

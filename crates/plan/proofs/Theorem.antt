@@ -69,7 +69,8 @@ module _ (C : List ℕ) (i : ℕ) where
 
   equation : (flips : List ℕ) → NoneSet flips → (s : ℕ) → MatrixEquation C s i (scramble-word flips s (product 2 C i))
   equation flips none s r h =
-      scrambled-digit flips s r h ∙ plainly (sum (length C) (λ c. entry 2 32 C r c * digit 2 c i)) (digit 2 (31 - r) s) (none-at flips none r _ (decLt r 8))
+      scrambled-digit flips s r h
+      ∙ plainly (sum (length C) (λ c. entry 2 32 C r c * digit 2 c i)) (digit 2 (31 - r) s) (none-at flips none r _ (decLt r 8))
     where
       plainly : (x y : ℕ) {f : ℕ} → f ≡ 0 → (x % 2 + f + y) % 2 ≡ (x + y) % 2
       plainly x y e = omega (arith, e)

@@ -10,9 +10,9 @@ use Rattle.net.specs.Scrambling.{Scrambling, digital}
 use Rattle.refusal.specs.Outcome.{Outcome, accepted, Test, first, granted}
 use Rattle.word.specs.Index.{index-bits}
 use Rattle.word.specs.Matrices.{pair, standard-matrices}
-use Rattle.plan.specs.declared.pair.Plan.{Plan}
 use Rattle.flips.specs.Scramble.{scramble-word, unscramble-word}
 use Rattle.flips.specs.Load.{flips-of, no-flips}
+use Rattle.plan.specs.declared.pair.Plan.{Plan}
 use Rattle.plan.specs.declared.points.Shift.{Shift}
 use Rattle.plan.specs.declared.points.Scramble.{Scramble}
 use Rattle.plan.specs.declared.points.Point.{Point}

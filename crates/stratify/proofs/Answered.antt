@@ -26,9 +26,9 @@ use Rattle.net.proofs.Product.{product-plus}
 use Rattle.net.proofs.VisitIndex.{visit-index-only}
 use Rattle.net.proofs.Basis.{inverse-plain, inverse-scrambled}
 use Rattle.word.specs.Matrices.{pair}
-use Rattle.elimination.specs.Elimination.{ShapeInverse}
 use Rattle.plan.specs.declared.points.Scramble.{Scramble}
 use Rattle.plan.specs.Pair.{scrambling}
+use Rattle.elimination.specs.Elimination.{ShapeInverse}
 use Rattle.stratify.specs.Answers.{not-a-cell, ShiftFits}
 use Rattle.stratify.specs.Strips.{plain-column, plain-row, plain-number}
 use Rattle.stratify.specs.Overview.{some-outside, others-outside, AllInside, visit-indexes}

@@ -11,10 +11,10 @@ use Rattle.net.specs.Shape.{Shape}
 use Rattle.net.specs.Elimination.{interval}
 use Rattle.net.proofs.Basis.{index-scrambled}
 use Rattle.word.specs.Matrices.{pair}
-use Rattle.elimination.specs.Elimination.{ShapeColumns, Eliminates}
-use Rattle.elimination.proofs.Shapes.{apart-without-kernel}
 use Rattle.plan.specs.declared.points.Scramble.{Scramble}
 use Rattle.plan.specs.Pair.{scrambling}
+use Rattle.elimination.specs.Elimination.{ShapeColumns, Eliminates}
+use Rattle.elimination.proofs.Shapes.{apart-without-kernel}
 use Rattle.stratify.specs.Answers.{ShiftFits}
 use Rattle.stratify.specs.Strips.{plain-number}
 use Rattle.stratify.proofs.LedBack.{lawful, undone-x, undone-y, number-less, row-before}

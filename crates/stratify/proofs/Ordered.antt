@@ -13,8 +13,8 @@ use Rattle.net.specs.Query.{visit-index, found, bad-shape, locate}
 use Rattle.refusal.specs.Outcome.{Outcome, accepted, refused, not-net, Test, first, then}
 use Rattle.refusal.proofs.First.{first-none, first-passes, first-append, first-ext, then-first, AllPass}
 use Rattle.word.specs.Index.{index-bits}
-use Rattle.plan.specs.declared.pair.Plan.{Plan}
 use Rattle.flips.specs.Load.{not-flips, unused-set}
+use Rattle.plan.specs.declared.pair.Plan.{Plan}
 use Rattle.plan.specs.declared.points.Scramble.{Scramble}
 use Rattle.plan.specs.Pair.{generators, scrambling, sequence, unknown-level}
 use Rattle.stratify.specs.Answers.{above-level, not-a-shape, not-a-cell, not-a-block, query-tests, of-location, query-outcome}
@@ -95,7 +95,8 @@ module _ (P : Plan) (s : Scramble) (level m a k : ℕ) where
       go (suc d) e = ap (and-others (accepted (index c r))) (others e all cs rs) ∙ put (some-outside m a cs rs)
 
   -- column 0 and row 0 are a cell of every shape: 6 does not hold
-  with-cell : {A : Type 0} (after : Outcome A) → first (query-tests (s .flips) level m a k 0 0) after ≡ first (tests-without-cell (s .flips) level m a k) after
+  with-cell : {A : Type 0} (after : Outcome A) → first (query-tests (s .flips) level m a k 0 0) after
+      ≡ first (tests-without-cell (s .flips) level m a k) after
   with-cell after =
       let before-six = unknown-level level ∷ not-flips (s .flips) ∷ unused-set (s .flips) ∷ above-level level m ∷ not-a-shape m a ∷ [] in
       let seven = not-a-block 2 index-bits m k ∷ [] in

@@ -13,9 +13,9 @@ use Rattle.net.specs.Check.{Verdict, passed, first-bad, check}
 use Rattle.net.specs.Query.{Location, found, bad-shape, locate}
 use Rattle.refusal.specs.Outcome.{Outcome, accepted, not-net, first}
 use Rattle.refusal.proofs.First.{first-none, first-passes, accepted-refused, all-pass, AllPass}
-use Rattle.plan.specs.declared.pair.Plan.{Plan}
 use Rattle.flips.specs.declared.sets.Flips.{Flips}
 use Rattle.flips.specs.Load.{flips-outcome}
+use Rattle.plan.specs.declared.pair.Plan.{Plan}
 use Rattle.plan.specs.declared.points.Scramble.{Scramble}
 use Rattle.plan.specs.Pair.{generators, scrambling, loaded, Level}
 use Rattle.plan.proofs.Level.{level-known, level-of}

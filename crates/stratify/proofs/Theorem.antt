@@ -35,8 +35,8 @@ use Rattle.net.proofs.Theorem as net
 use Rattle.refusal.specs.Outcome.{accepted}
 use Rattle.refusal.proofs.First.{first-accepted}
 use Rattle.word.specs.Index.{index-count, last-index}
-use Rattle.plan.specs.declared.pair.Plan.{Plan}
 use Rattle.flips.proofs.Theorem as flips
+use Rattle.plan.specs.declared.pair.Plan.{Plan}
 use Rattle.plan.specs.declared.points.Shift.{Shift}
 use Rattle.plan.specs.declared.points.Scramble.{Scramble}
 use Rattle.plan.specs.Pair.{generators, scrambling, only-shift, sequence, largest-level, unknown-level, Level, loaded}
@@ -172,7 +172,8 @@ module _ {P : Plan} (valid : Valid (generators P)) {s : Scramble} (words : Scram
     answers-iff = (
       λ (i, e). L .found-iff i .0 (location-accepted m a is i .0 e) .0,
       λ odd.
-          let only = net.theorems .net-test shape two .stratified-iff .0 odd .one-visit _ (lawful s (words .shift)) k c r (cell .column) (cell .row) in
+          let one = net.theorems .net-test shape two .stratified-iff .0 odd .one-visit in
+          let only = one _ (lawful s (words .shift)) k c r (cell .column) (cell .row) in
           (_, location-accepted m a is _ .1 (L .found-iff _ .1 (odd, only))),
     );
     answer-iff = λ i. (λ e. L .found-iff i .0 (location-accepted m a is i .0 e), λ h. location-accepted m a is i .1 (L .found-iff i .1 h));
@@ -203,7 +204,8 @@ size-zero : {P : Plan} → Valid (generators P) → {s : Scramble} → ScrambleF
 size-zero {P} valid {s} words {level} known {k} h =
     let one-cell : 0 < 2 ^ 0 = omega arith in
     let cell : Cell level 0 0 k 0 0 = record { size = omega arith; wide = omega arith; column = one-cell; row = one-cell; block = h } in
-    location-accepted 0 0 (query-outcome-is P s level 0 0 k 0 0 known (words .flips) cell) k .1 (net.theorems .size-zero valid (lawful s (words .shift)) k)
+    location-accepted 0 0 (query-outcome-is P s level 0 0 k 0 0 known (words .flips) cell) k .1
+    (net.theorems .size-zero valid (lawful s (words .shift)) k)
 
 -- ---- 4: the check
 
@@ -245,7 +247,9 @@ lists P s = record {
 gives-run : (P : Plan) (s : Scramble) (m k : ℕ) → GivesRun P s m k
 gives-run P s m k = record {
   points = refl;
-  fills = λ p xs ys e. ap (take (2 ^ m - p)) (filled-visits index-count (s .flips) S (k * 2 ^ m + p) xs ys e) ∙ net.theorems .runs S m k .run-from p (length xs);
+  fills = λ p xs ys e.
+      ap (take (2 ^ m - p)) (filled-visits index-count (s .flips) S (k * 2 ^ m + p) xs ys e)
+      ∙ net.theorems .runs S m k .run-from p (length xs);
   walks = λ count n w e.
       ap (λ (v : Walk). take (2 ^ m) (visits-walked S n v)) (opened index-count (k * 2 ^ m) count w e)
       ∙ net.theorems .walked-run S m k last-index count n (within index-count (k * 2 ^ m) count w e) .list;

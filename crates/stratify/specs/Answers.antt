@@ -9,9 +9,9 @@ use Rattle.net.specs.Query.{Location, found, bad-shape, locate}
 use Rattle.refusal.specs.Outcome.{Outcome, accepted, not-net, Test, first}
 use Rattle.refusal.specs.Refusal.{of-refusal}
 use Rattle.word.specs.Index.{index-bits}
-use Rattle.plan.specs.declared.pair.Plan.{Plan}
 use Rattle.flips.specs.declared.sets.Flips.{Flips}
 use Rattle.flips.specs.Load.{not-flips, unused-set, flips-outcome}
+use Rattle.plan.specs.declared.pair.Plan.{Plan}
 use Rattle.plan.specs.declared.points.Shift.{Shift}
 use Rattle.plan.specs.declared.points.Scramble.{Scramble}
 use Rattle.plan.specs.Pair.{generators, scrambling, loaded, not-a-pair, unknown-level}

@@ -12,9 +12,9 @@ use Rattle.net.specs.Check.{least-index}
 use Rattle.net.specs.Query.{visit-index}
 use Rattle.refusal.specs.Outcome.{Outcome, accepted, refused, not-net, Test, first, then}
 use Rattle.word.specs.Index.{index-bits}
-use Rattle.plan.specs.declared.pair.Plan.{Plan}
 use Rattle.flips.specs.declared.sets.Flips.{Flips}
 use Rattle.flips.specs.Load.{not-flips, unused-set}
+use Rattle.plan.specs.declared.pair.Plan.{Plan}
 use Rattle.plan.specs.declared.points.Scramble.{Scramble}
 use Rattle.plan.specs.Pair.{generators, sequence, unknown-level}
 use Rattle.plan.specs.Fill.{lengths-differ}

@@ -137,8 +137,8 @@ pub record Counted (P : Plan) (s : Scramble) (m a c r start n : ℕ) : Type 0 wh
   pub walks : (count steps : ℕ) (w : Walk) → open-outcome index-count start count ≡ accepted w → min steps count ≡ n
       → CountBounds start n (2 ^ m) (hits (sequence P s) m a c r (visits-walked (sequence P s) steps w))
 
--- what passing level M is worth: this holds under all flips and every shift, in every cell of every shape of a size from 0 to M, for every start and every
--- n from 1 on, as far as the indexes go
+-- what passing level M is worth: this holds under all flips and every shift, in every cell of every shape of a size from 0 to M, for every
+-- start and every n from 1 on, as far as the indexes go
 abbrev pub CountedAnywhere : Plan → ℕ → Type 0
 CountedAnywhere P M = (s : Scramble) → ScrambleFits s → (m a c r : ℕ) → m ≤ M → a ≤ m → c < 2 ^ a → r < 2 ^ (m - a)
     → (start n : ℕ) → 1 ≤ n → start + n ≤ index-count → Counted P s m a c r start n

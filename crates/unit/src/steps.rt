@@ -43,7 +43,8 @@ pub fn step_singles(
 ) -> SinglesStepped
     ensures step { λ r. ⌜
         of-singles-step (r .step)
-        ≡ through (λ t. t .answer) (singles-step-outcome plan (scramble-of shift (now («flips_x» .entry)) (now («flips_y» .entry))) (of-walk walk)) ⌝ }
+        ≡ through (λ t. t .answer)
+        (singles-step-outcome plan (scramble-of shift (now («flips_x» .entry)) (now («flips_y» .entry))) (of-walk walk)) ⌝ }
     ensures walk { λ r. ⌜
         of-walk (r .walk)
         ≡ part-left (singles-step-outcome plan (scramble-of shift (now («flips_x» .entry)) (now («flips_y» .entry))) (of-walk walk)) (λ t. t .walk)

@@ -30,7 +30,8 @@ pub extern "C" fn vektrid_query(
     ensures index { λ _. ⌜
         now (index .exit)
         ≡ part-left (pair-query-outcome (now (words .entry))
-        (scramble-words «shift_x» «shift_y» (now («flips_x» .entry)) (now («flips_y» .entry))) level m a column row block) (λ i. i) (now (index .entry)) ⌝ }
+        (scramble-words «shift_x» «shift_y» (now («flips_x» .entry)) (now («flips_y» .entry))) level m a column row block) (λ i. i)
+        (now (index .entry)) ⌝ }
     ensures j { λ _. ⌜
         now (j .exit)
         ≡ value-left (pair-query-outcome (now (words .entry))

@@ -4,14 +4,14 @@ use mathlib.Core.List.{List, _++_, map}
 use Prim.Native.Nat.{ℕ, suc, _+_, _-_, _*_, _/_, _%_, _^_, _≤_, _<_}
 use native.Mathlib.Numerals.{add-one}
 use native.Mathlib.Omega.{arith}
+use borrow.Author.Needs.{needs}
 use lib.Bits.{bitXor}
 use lib.ListN.{length, getD, set, take, drop, length-set}
-use borrow.Author.Needs.{needs}
 use mir.Syntax.{w32}
 use mir.Val.{Fits}
 use Rattle.ranges.specs.Range.{range}
-use Rattle.flips.specs.Scramble.{scramble-word, mask}
 use Rattle.ranges.proofs.Mapped.{map-step, map-next, map-whole}
+use Rattle.flips.specs.Scramble.{scramble-word, mask}
 use Rattle.flips.proofs.Scrambled.{by-mask}
 use Rattle.flips.proofs.buffers.scramble_all.Statement.{statement}
 use Rattle.flips.proofs.buffers.scramble_all.Tie as tie
@@ -97,7 +97,8 @@ returns : tie.Need-returns Inv-loop μ-loop
 returns c =
     let l = c .before .loop in
     let a = c .before .before .before .before .args in
-    sym (l .inv .2 (a .flips) (c .before .before .masks .ensures)) ∙ map-whole 0 (scramble-word (a .flips) (a .shift)) (a .words .now) (l .k) (omega arith)
+    sym (l .inv .2 (a .flips) (c .before .before .masks .ensures))
+    ∙ map-whole 0 (scramble-word (a .flips) (a .shift)) (a .words .now) (l .k) (omega arith)
 
 pub scramble-all-spec : {M : Type 1} → statement M
 scramble-all-spec =

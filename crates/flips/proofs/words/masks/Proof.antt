@@ -5,9 +5,9 @@ use native.Mathlib.Nat.{zero-add}
 use native.Mathlib.Omega.{arith}
 use borrow.Author.Needs.{needs}
 use lib.Bits.{bitXor}
-use Rattle.digits.proofs.Two.{plus-two}
 use Rattle.ranges.proofs.Filled.{Filled, filled-none, filled-more, filled-all}
 use Rattle.digits.specs.Digits.{plus}
+use Rattle.digits.proofs.Two.{plus-two}
 use Rattle.flips.specs.Flips.{flipped}
 use Rattle.flips.specs.Scramble.{mask}
 use Rattle.flips.proofs.words.masks.Statement.{statement}
@@ -50,7 +50,8 @@ loop-again c =
     let s = c .before .before .before .args .shift in
     let w : ℕ = l .v * 2 ^ 24 in
     let x = bitXor (bitXor (c .flip .result) w) s in
-    let f : bitXor (c .flip .result) w ≡ plus 2 (flipped flips w) w = ap (λ (n : ℕ). bitXor n w) (c .flip .ensures) ∙ sym (plus-two (flipped flips w) w) in
+    let f : bitXor (c .flip .result) w ≡ plus 2 (flipped flips w) w = ap (λ (n : ℕ). bitXor n w) (c .flip .ensures)
+    ∙ sym (plus-two (flipped flips w) w) in
     let e : x ≡ mask flips s (l .v) = ap (λ (n : ℕ). bitXor n s) f ∙ sym (plus-two (plus 2 (flipped flips w) w) s) in
     (omega arith, filled-more (l .inv .1) x (e ∙ ap (mask flips s) (sym (zero-add (l .v)))) (omega arith))
 

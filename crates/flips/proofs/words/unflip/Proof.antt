@@ -2,8 +2,8 @@
 use mathlib.Core.Path.{_≡_, refl, sym, ap, _∙_}
 use Prim.Native.Nat.{ℕ, _+_, _-_, _*_, _/_, _%_, _^_, _≤_, _<_}
 use native.Mathlib.Omega.{arith}
-use lib.ListN.{getD}
 use borrow.Author.Needs.{needs}
+use lib.ListN.{getD}
 use Rattle.flips.proofs.Flips.{read-bit}
 use Rattle.flips.proofs.Turn.{Node, low, unflip-starts, unflip-node-lt, unflip-node-le, unflip-turn, unflip-ends}
 use Rattle.flips.proofs.words.unflip.Statement.{statement}

@@ -28,6 +28,10 @@ lent s = flips-of (s .args .flips-x .now) (s .args .flips-y .now)
 abbrev S : tie.Start → Sequence
 S s = let a = s .args in sequence (a .plan) (scramble-of (a .shift) (a .flips-x .now) (a .flips-y .now))
 
+-- n coordinates of one axis
+abbrev axis : (C : List ℕ) (s start n : ℕ) → List ℕ → List ℕ
+axis C s start n flips = map (coordinate 2 C (scramble-word flips s)) (range start n)
+
 -- where the flips have been accepted, they are those that were loaded
 abbrev start : tie.After-enum-told → tie.Start
 start d = d .before .before .before .before .before .before .before
@@ -53,7 +57,8 @@ returns c =
     let s = c .before .before .before .before .before .before .before .before in
     let a = s .args in
     leaves index-count (lent s) (a .start) (a .xs .now) (a .ys .now) (S s)
-    (refused-flips index-count (lent s) (a .start) (a .xs .now) (a .ys .now) (c .before .before .before .load .ensures .0) (c .before .judged .given .1))
+    (refused-flips index-count (lent s) (a .start) (a .xs .now) (a .ys .now) (c .before .before .before .load .ensures .0)
+    (c .before .judged .given .1))
 
 enum-told : tie.Need-enum-told
 enum-told c = search needs
@@ -107,10 +112,10 @@ returns-4 c =
       sym o,
       (
         c .before .before .before .before .before .before .fill-axis .ensures
-            ∙ ap (λ (g : Flips). map (coordinate 2 (a .plan .x) (scramble-word (g .x) (a .shift .x))) (range (a .start) (length (a .xs .now)))) (are d)
+            ∙ ap (axis (a .plan .x) (a .shift .x) (a .start) (length (a .xs .now))) (ap (λ (g : Flips). g .x) (are d))
             ∙ sym (ap (λ (b : Buffers). b .x) w),
         c .before .before .fill-axis2 .ensures
-            ∙ ap (λ (g : Flips). map (coordinate 2 (a .plan .y) (scramble-word (g .y) (a .shift .y))) (range (a .start) (length (a .ys .now)))) (are d)
+            ∙ ap (axis (a .plan .y) (a .shift .y) (a .start) (length (a .ys .now))) (ap (λ (g : Flips). g .y) (are d))
             ∙ sym (ap (λ (b : Buffers). b .y) w),
       ),
     )

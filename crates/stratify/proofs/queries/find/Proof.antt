@@ -34,7 +34,8 @@ columns : (c : tie.After-eliminate) → let s = c .before .before .before .befor
     ShapeColumns (generators (s .args .plan)) (s .args .m) (s .args .a) (c .before .shape-columns .result)
 columns c = let q = c .before .before .before .before .pre .2 in c .before .shape-columns .ensures .shape (q .wide) (q .size)
 
-kernel : (c : tie.After-eliminate) → KernelIs (c .before .shape-columns .result) (c .before .before .before .before .args .m) (c .eliminate .result .kernel)
+kernel : (c : tie.After-eliminate) → let a = c .before .before .before .before .args in
+    KernelIs (c .before .shape-columns .result) (a .m) (c .eliminate .result .kernel)
 kernel c = c .eliminate .ensures .within (c .before .before .before .before .pre .2 .size) .kernel-is
 
 -- the index that comes back is the only one

@@ -64,7 +64,8 @@ returns-2 c =
     let s = scramble-words (a .shift-x) (a .shift-y) (a .flips-x .now) (a .flips-y .now) in
     let n = l .before .before .pair-answer .ensures in
     let none = l .before .if1 .left in (
-      answered (a .words .now) (fill-outcome index-count (s .flips) (a .start) (a .xs .now) (a .ys .now)) n none (d .fill .ensures .0) (c .number-of .ensures),
+      answered (a .words .now) (fill-outcome index-count (s .flips) (a .start) (a .xs .now) (a .ys .now)) n none
+          (d .fill .ensures .0) (c .number-of .ensures),
       (
         buffer (λ b. b .x) (a .words .now) s (a .start) (a .xs .now) (a .ys .now) n none (l .pair-plan .ensures)
             (d .fill .ensures .1 .0),

@@ -55,7 +55,8 @@ pair-answer-requires c κs = search needs
 
 returns : tie.Need-returns
 returns c =
-    let e = stops (c .before .before .before .before .before .before .before .before .args .words .now) (c .before .pair-answer .ensures) _ (c .if1 .taken) in
+    let s = c .before .before .before .before .before .before .before .before in
+    let e = stops (s .args .words .now) (c .before .pair-answer .ensures) _ (c .if1 .taken) in
     (refused-answer e, (refused-leaves (λ is. is) _ e, refused-gives e 2 _))
 
 pair-plan-requires : tie.Need-pair-plan-requires

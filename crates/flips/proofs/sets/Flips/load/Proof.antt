@@ -36,7 +36,8 @@ returns-3 c =
     let a = c .before .before .before .before .before .before .before .args in
     let set = bit-set (a .x .now) (c .before .if3 .taken) (omega (arith, c .before .before .shared-slice-known3 .given 31)) in
     load-refused (flips-of (a .x .now) (a .y .now))
-    (refuses-bit-x (a .x .now) (a .y .now) (c .before .before .before .before .if1 .left) (c .before .before .before .if2 .left) set) (c .refused3 .ensures .0) (c .refused3 .ensures .1)
+    (refuses-bit-x (a .x .now) (a .y .now) (c .before .before .before .before .if1 .left) (c .before .before .before .if2 .left) set)
+    (c .refused3 .ensures .0) (c .refused3 .ensures .1)
 
 shared-slice-read-if4 : tie.Need-shared-slice-read-if4
 shared-slice-read-if4 c = search needs
@@ -49,7 +50,8 @@ returns-4 c =
     let a = c .before .before .before .before .before .before .before .before .before .args in
     let set = bit-set (a .y .now) (c .before .if4 .taken) (omega (arith, c .before .before .shared-slice-known4 .given 31)) in
     load-refused (flips-of (a .x .now) (a .y .now))
-    (refuses-bit-y (a .x .now) (a .y .now) (c .before .before .before .before .before .before .if1 .left) (c .before .before .before .before .before .if2 .left) set) (c .refused4 .ensures .0) (c .refused4 .ensures .1)
+    (refuses-bit-y (a .x .now) (a .y .now) (c .before .before .before .before .before .before .if1 .left)
+    (c .before .before .before .before .before .if2 .left) set) (c .refused4 .ensures .0) (c .refused4 .ensures .1)
 
 copied-requires : tie.Need-copied-requires
 copied-requires c κs = search needs

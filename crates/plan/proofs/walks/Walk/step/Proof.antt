@@ -65,7 +65,8 @@ returns-3 c =
     let a = start d .args in
     let s : Scramble = record { shift = a .shift; flips = d .before .before .load .result .flips } in
     step-taken (of-walk (a .self))
-    (taken d (simp (ne-eqb _ _ (c .before .before .before .if1 .left), le-ltb last-index (a .self .next) (omega arith), eq-eqb _ _ (c .if2 .taken), step)
+    (taken d
+    (simp (ne-eqb _ _ (c .before .before .before .if1 .left), le-ltb last-index (a .self .next) (omega arith), eq-eqb _ _ (c .if2 .taken), step)
     (tells (sequence (a .plan) s) _ (a .self .next) _ _ (c .before .scrambled-point .ensures))))
 
 add-t20 : tie.Need-add-t20
@@ -81,7 +82,8 @@ returns-4 c =
     let a = start d .args in
     let s : Scramble = record { shift = a .shift; flips = d .before .before .load .result .flips } in
     step-taken (of-walk (a .self))
-    (taken d (simp (ne-eqb _ _ (c .before .before .before .if1 .left), le-ltb last-index (a .self .next) (omega arith), ne-eqb _ _ (c .if2 .left), step)
+    (taken d
+    (simp (ne-eqb _ _ (c .before .before .before .if1 .left), le-ltb last-index (a .self .next) (omega arith), ne-eqb _ _ (c .if2 .left), step)
     (tells (sequence (a .plan) s) _ (a .self .next) _ _ (c .before .scrambled-point .ensures))))
 
 pub step-spec : {M : Type 1} → statement M
