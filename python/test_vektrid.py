@@ -37,6 +37,10 @@ except ImportError:
 
 LAST = 2**32 - 1
 SHIFTS = [(0, 0), (0x80000000, 0), (0x12345678, 0x9ABCDEF0), (LAST, LAST)]
+NONE, MOST = bytes(32), 31 * b'\xff' + b'\x7f'  # the flips of an axis: no flip bit, and all but the one that is refused
+SHIFTED = dict(shift=SHIFTS[2])
+FLIPPED = dict(shift=SHIFTS[2], flips=tuple(random.Random(axis).getrandbits(255).to_bytes(32, 'little') for axis in 'xy'))
+SCRAMBLES = [dict(shift=shift) for shift in SHIFTS] + [dict(flips=(MOST, NONE)), FLIPPED]
 
 
 # ---- the definitions of the requirements, once more
@@ -49,13 +53,22 @@ def standard_words():
     return x + y
 
 
-def point_of(words, index, shift=(0, 0)):
-    """A coordinate is the exclusive or of the columns whose index bit is set, and then of that axis's scramble word."""
-    x, y = shift
+def flipped(word, flips):
+    """Coordinate bit t from the top, t from 0 to 7, is flipped if flip bit 2^t - 1 + p is set, p being the t leading bits before any flip, read as
+    a number. Flip bits are numbered from the lowest bit of byte 0."""
+    bits, flip_bits = f'{word:032b}', ''.join(f'{byte:08b}'[::-1] for byte in flips)
+    leading = [int(bits[:t] or '0', 2) for t in range(8)]
+    turned = [{'0': '1', '1': '0'}[bits[t]] if flip_bits[2**t - 1 + leading[t]] == '1' else bits[t] for t in range(8)]
+    return int(''.join(turned) + bits[8:], 2)
+
+
+def point_of(words, index, shift=(0, 0), flips=(NONE, NONE)):
+    """A coordinate is the exclusive or of the columns whose index bit is set; it is flipped; and then that axis's scramble word is added."""
+    x = y = 0
     for bit in range(32):
         if index >> bit & 1:
             x, y = x ^ words[bit], y ^ words[32 + bit]
-    return x, y
+    return flipped(x, flips[0]) ^ shift[0], flipped(y, flips[1]) ^ shift[1]
 
 
 def cell_of(point, m, a):
@@ -255,13 +268,37 @@ class RefusalTable(unittest.TestCase):
                 for text in (vektrid.listing, vektrid.sheet):
                     self.assertEqual(text(file), f'refused {number}\n')
 
+    # every call that takes flips
+    TAKING_FLIPS = [lambda flips: STANDARD.point(5, flips=flips), lambda flips: STANDARD.point_singles(5, flips=flips),
+                    lambda flips: vektrid.standard_point(5, flips=flips), lambda flips: STANDARD.fill(5, 3, flips=flips),
+                    lambda flips: STANDARD.fill(5, (array.array('I', [7]), array.array('I', [7])), flips=flips),
+                    lambda flips: next(STANDARD.walk(5, 3, flips=flips)), lambda flips: next(STANDARD.walk_singles(5, 3, flips=flips)),
+                    lambda flips: STANDARD.query(32, 4, 2, 3, 1, 0, flips=flips), lambda flips: STANDARD.overview(32, 4, 2, [3], [1], flips=flips),
+                    lambda flips: STANDARD.overview(32, 4, 2, [], [], flips=flips)]
+
+    def test_17_flip_bytes(self):
+        bit_255 = bytes(31) + b'\x80'  # which would be refused too, but after the lengths of both axes
+        for x, y in [(31, 32), (32, 31), (33, 32), (32, 33), (0, 32), (32, 0), (0, 0), (31, 33), (64, 32), (256, 256)]:
+            for call in self.TAKING_FLIPS:
+                self.refused(vektrid.FlipBytes, 17, [f'x are {x}', f'y {y}'], lambda: call((bytes(x), bytes(y))))
+        for x, y in [(bit_255, NONE[1:]), (NONE[1:], bit_255), (bit_255[1:], NONE), (NONE, bit_255 + b'\x80')]:
+            for call in self.TAKING_FLIPS:
+                self.refused(vektrid.FlipBytes, 17, [len(x), len(y)], lambda: call((x, y)))
+
+    def test_18_flip_bit(self):
+        for x, y in [(128, 0), (0, 128), (128, 128), (255, 127), (127, 200)]:
+            for call in self.TAKING_FLIPS:
+                self.refused(vektrid.FlipBit, 18, [f'{x} for x', f'{y} for y'], lambda: call((MOST[:31] + bytes([x]), NONE[:31] + bytes([y]))))
+        for call in self.TAKING_FLIPS:
+            call((MOST, MOST))  # every other flip bit may be set
+
     def test_no_link_without_a_file(self):
         for kind, number, call in ((vektrid.Level, 2, lambda: STANDARD.check(33)), (vektrid.RegionLimits, 10, lambda: vektrid.Region(0, 0, 0, 1))):
             refusal = self.refused(kind, number, [], call)
             self.assertEqual((refusal.holder, refusal.named), (None, None))
 
     def test_one_class_for_each_number(self):
-        self.assertEqual(sorted(kind.number for kind in vektrid.Refusal.__subclasses__()), list(range(1, 17)))
+        self.assertEqual(sorted(kind.number for kind in vektrid.Refusal.__subclasses__()), list(range(1, 19)))
         self.assertTrue(issubclass(vektrid.Refusal, ValueError))
 
     def test_message(self):
@@ -271,26 +308,37 @@ class RefusalTable(unittest.TestCase):
                  'refusal 13: the chain names a record that the file lacks: record 1 names record 5, and the last record of the file is 1'),
                 (vektrid.Field, dict(where='record 1: ', field_width=1001, field_height=0, width=1000, height=800),
                  "refusal 16: the reader's field is wider or taller than a region: record 1: the field is 1001 by 0 micrometres (0 counts as 1), "
-                 'and the region 1000 by 800')]:
+                 'and the region 1000 by 800'),
+                (vektrid.FlipBytes, dict(bytes_x=31, bytes_y=32),
+                 'refusal 17: the flips of an axis are not 32 bytes: those of x are 31 and those of y 32'),
+                (vektrid.FlipBit, dict(last_x=0, last_y=128),
+                 'refusal 18: flip bit 255 of an axis is set: byte 31 is 0 for x and 128 for y; below 128 is needed')]:
             self.assertEqual(str(kind(**given)), message)
         with unittest.mock.patch.object(vektrid.Shape, 'details', ''):  # nothing behind the words where there are no values
             self.assertEqual(str(vektrid.Shape()), 'refusal 5: a is above m')
 
     def test_number_unknown(self):
-        with self.assertRaisesRegex(RuntimeError, '17'):
-            vektrid._accept(17)
+        with self.assertRaisesRegex(RuntimeError, '99'):
+            vektrid._accept(99)
 
 
 class RefusalOrder(unittest.TestCase):
     """Where several refusals apply, the first in the call's order is given."""
 
+    BIT_SET, SHORT = (NONE, bytes(31) + b'\x80'), (bytes(31), bytes(31) + b'\x80')  # flips that are refused under 18, and under 17
+
+    def number(self, call, *given, **flips):
+        with self.assertRaises(vektrid.Refusal) as caught:
+            call(*given, **flips)
+        return caught.exception.number
+
     def test_query(self):
         # from the last test to the first: each line makes one thing more wrong
         for number, given in [(3, (32, 4, 2, 0, 0, 0)), (7, (32, 4, 2, 0, 0, 2**28)), (6, (32, 4, 2, 4, 0, 2**28)), (5, (32, 4, 5, 4, 0, 2**28)),
                               (4, (3, 4, 5, 4, 0, 2**28)), (2, (0, 4, 5, 4, 0, 2**28))]:
-            with self.assertRaises(vektrid.Refusal) as caught:
-                IDENTITIES.query(*given)
-            self.assertEqual(caught.exception.number, number)
+            self.assertEqual(self.number(IDENTITIES.query, *given), number)
+            for refused, flips in ((18, self.BIT_SET), (17, self.SHORT)):
+                self.assertEqual(self.number(IDENTITIES.query, *given, flips=flips), 2 if number == 2 else refused)
 
     def test_overview(self):
         # from the last test to the first, as above; a cell outside comes before the block only where it is the first
@@ -300,24 +348,36 @@ class RefusalOrder(unittest.TestCase):
                               (4, (3, 4, 5, far, far, 2**28)), (2, (0, 4, 5, far, far, 2**28)), (8, (0, 4, 5, far, [4], 2**28)),
                               (3, (32, 4, 2, [], [], 0)), (7, (32, 4, 2, [], [], 2**28)), (5, (32, 4, 5, [], [], 2**28)),
                               (4, (3, 4, 5, [], [], 2**28)), (2, (0, 4, 5, [], [], 2**28))]:
-            with self.assertRaises(vektrid.Refusal) as caught:
-                IDENTITIES.overview(*given)
-            self.assertEqual(caught.exception.number, number)
-        with self.assertRaises(vektrid.Cell):
-            STANDARD.overview(32, 4, 2, later, [0, 0])
+            self.assertEqual(self.number(IDENTITIES.overview, *given), number)
+            for refused, flips in ((18, self.BIT_SET), (17, self.SHORT)):
+                self.assertEqual(self.number(IDENTITIES.overview, *given, flips=flips), number if number in (2, 8) else refused)
+        self.assertEqual(self.number(STANDARD.overview, 32, 4, 2, later, [0, 0]), 6)
 
-    def test_check_and_fill(self):
-        with self.assertRaises(vektrid.Level):
-            IDENTITIES.check(33)
-        with self.assertRaises(vektrid.BufferLengths):
-            STANDARD.fill(LAST, (array.array('I', 2 * [0]), array.array('I', 3 * [0])))
+    def test_check(self):
+        self.assertEqual(self.number(IDENTITIES.check, 33), 2)
+
+    def test_fill(self):
+        two, three = array.array('I', 2 * [7]), array.array('I', 3 * [7])
+        for number, into, flips in [(9, 2, None), (9, (two, two[:]), None), (8, (two, three), None), (18, (two, three), self.BIT_SET),
+                                    (18, (two, two[:]), self.BIT_SET), (18, 2, self.BIT_SET), (18, 2**64 - 1, self.BIT_SET),
+                                    (17, (two, three), self.SHORT), (17, (two, two[:]), self.SHORT), (17, 2, self.SHORT)]:
+            self.assertEqual(self.number(STANDARD.fill, LAST, into, flips=flips), number)
+        self.assertEqual((list(two), list(three)), (2 * [7], 3 * [7]))
+
+    def test_walk(self):
+        # the flips are judged by a step and not by the opening, also where the walk has ended; the walk stays as it was
+        for number, flips in ((18, self.BIT_SET), (17, self.SHORT)):
+            self.assertEqual(self.number(STANDARD.walk, LAST, 2, flips=flips), 9)
+            for start, count in ((6, 3), (6, 0), (LAST, 1), (LAST, 0)):
+                walk = STANDARD.walk(start, count, flips=flips)
+                for step in (walk.step, walk.step_singles, lambda: next(walk)):
+                    self.assertEqual(self.number(step), number)
+                    self.assertEqual((walk.next, walk.left), (start, count))
 
     def test_position(self):
         region = vektrid.Region(0, 0, 10, 10)
         for number, place in [(16, region), (10, region._replace(left=1000001)), (10, region._replace(width=0))]:
-            with self.assertRaises(vektrid.Refusal) as caught:
-                place.position(0, 0, field=(11, 11))
-            self.assertEqual(caught.exception.number, number)
+            self.assertEqual(self.number(place.position, 0, 0, (11, 11)), number)
 
     def test_file(self):
         wide, used = (1001, 1), b'\1' + bytes(15)
@@ -326,9 +386,7 @@ class RefusalOrder(unittest.TestCase):
                              (10, head(1, 2, wide) + record(9, **wrong)), (13, head(1, 2) + record(9)),
                              (14, head(1, 2) + record(2) + record(1) + record(0, **wrong)), (13, head(9, 2, wide) + record(1, **wrong)),
                              (12, head(9, 2, wide, used)), (2, head(9, 0, wide, used)), (11, head(9, 0, wide, used) + b'x')]:
-            with self.assertRaises(vektrid.Refusal) as caught:
-                vektrid.judge(file)
-            self.assertEqual(caught.exception.number, number)
+            self.assertEqual(self.number(vektrid.judge, file), number)
 
 
 # ---- known points of the requirements, and wrong turns
@@ -417,15 +475,16 @@ class Points(unittest.TestCase):
         chosen = random.Random(1)
         other = vektrid.Pair([chosen.getrandbits(32) for _ in range(64)])
         for index in [0, 1, 0x80000000, LAST] + [chosen.getrandbits(32) for _ in range(200)]:
-            for shift in SHIFTS:
+            for scramble in SCRAMBLES:
                 for pair in (STANDARD, other):
-                    self.assertEqual(pair.point(index, shift), point_of(pair.words, index, shift))
-                self.assertEqual(vektrid.standard_point(index, shift), point_of(STANDARD.words, index, shift))
+                    self.assertEqual(pair.point(index, **scramble), point_of(pair.words, index, **scramble))
+                self.assertEqual(vektrid.standard_point(index, **scramble), point_of(STANDARD.words, index, **scramble))
 
     def test_singles(self):
         for index in (0, 1, 2, 77, LAST):
-            x, y = STANDARD.point(index, SHIFTS[2])
-            self.assertEqual(STANDARD.point_singles(index, SHIFTS[2]), (vektrid.single(x), vektrid.single(y)))
+            for scramble in SCRAMBLES:
+                x, y = STANDARD.point(index, **scramble)
+                self.assertEqual(STANDARD.point_singles(index, **scramble), (vektrid.single(x), vektrid.single(y)))
 
     def test_pair_is_a_value(self):
         words = list(STANDARD.words)
@@ -445,17 +504,19 @@ class Fills(unittest.TestCase):
         starts += [(2**32 - back, count) for back in (1, 2, 3, 17, 130) for count in (1, 2, 3, 17, 130) if count <= back]
         for start, count in starts:
             for pair in (STANDARD, IDENTITIES):
-                xs, ys = pair.fill(start, count, SHIFTS[2])
-                self.assertEqual(list(zip(xs, ys)), [point_of(pair.words, start + place, SHIFTS[2]) for place in range(count)])
-                self.assertEqual((type(xs), len(xs), len(ys)), (list, count, count))
+                for scramble in (SHIFTED, FLIPPED):
+                    xs, ys = pair.fill(start, count, **scramble)
+                    self.assertEqual(list(zip(xs, ys)), [point_of(pair.words, start + place, **scramble) for place in range(count)])
+                    self.assertEqual((type(xs), len(xs), len(ys)), (list, count, count))
 
     def test_in_place(self):
         for make in (lambda: array.array('I', 9 * [1]), lambda: (ctypes.c_uint32 * 9)(*9 * [1]), lambda: memoryview(bytearray(36)).cast('I')):
-            xs, ys = make(), make()
-            given = STANDARD.fill(5, (xs, ys))
-            self.assertIs(given[0], xs)
-            self.assertIs(given[1], ys)
-            self.assertEqual([list(xs), list(ys)], list(STANDARD.fill(5, 9)))
+            for scramble in ({}, FLIPPED):
+                xs, ys = make(), make()
+                given = STANDARD.fill(5, (xs, ys), **scramble)
+                self.assertIs(given[0], xs)
+                self.assertIs(given[1], ys)
+                self.assertEqual([list(xs), list(ys)], list(STANDARD.fill(5, 9, **scramble)))
 
     def test_array_may_grow_again(self):
         xs, ys = array.array('I', [0]), array.array('I', [0])
@@ -544,15 +605,16 @@ class LentBuffers(unittest.TestCase):
 class Walks(unittest.TestCase):
 
     def test_to_the_end_and_beyond(self):
-        walk = STANDARD.walk(6, 3, SHIFTS[2])
-        for taken in range(3):
-            self.assertEqual((walk.next, walk.left), (6 + taken, 3 - taken))
-            self.assertEqual(walk.step(), (6 + taken,) + STANDARD.point(6 + taken, SHIFTS[2]))
-        for _ in range(3):
-            self.assertIsNone(walk.step())
-            self.assertIsNone(walk.step_singles())
-            self.assertEqual((walk.next, walk.left), (9, 0))
-            self.assertRaises(StopIteration, next, walk)
+        for scramble in (SHIFTED, FLIPPED):
+            walk = STANDARD.walk(6, 3, **scramble)
+            for taken in range(3):
+                self.assertEqual((walk.next, walk.left), (6 + taken, 3 - taken))
+                self.assertEqual(walk.step(), (6 + taken,) + STANDARD.point(6 + taken, **scramble))
+            for _ in range(3):
+                self.assertIsNone(walk.step())
+                self.assertIsNone(walk.step_singles())
+                self.assertEqual((walk.next, walk.left), (9, 0))
+                self.assertRaises(StopIteration, next, walk)
 
     def test_to_the_last_index(self):
         walk = STANDARD.walk(2**32 - 3, 3)
@@ -574,9 +636,10 @@ class Walks(unittest.TestCase):
             self.assertEqual((list(walk), walk.next, walk.left), ([], start, 0))
 
     def test_singles(self):
-        for visit, word_visit in zip(STANDARD.walk_singles(1, 40, SHIFTS[2]), STANDARD.walk(1, 40, SHIFTS[2])):
-            self.assertEqual(visit, (word_visit.index, vektrid.single(word_visit.x), vektrid.single(word_visit.y)))
-            self.assertIsInstance(visit, vektrid.SinglesVisit)
+        for scramble in (SHIFTED, FLIPPED):
+            for visit, word_visit in zip(STANDARD.walk_singles(1, 40, **scramble), STANDARD.walk(1, 40, **scramble)):
+                self.assertEqual(visit, (word_visit.index, vektrid.single(word_visit.x), vektrid.single(word_visit.y)))
+                self.assertIsInstance(visit, vektrid.SinglesVisit)
         self.assertEqual(len(list(STANDARD.walk_singles(1, 40))), 40)
 
     def test_resumed(self):
@@ -593,27 +656,37 @@ class Queries(unittest.TestCase):
         for pair in (STANDARD, SWAPPED):
             for m in range(6):
                 for block in (0, 1, 5, 2**(32 - m) - 1):
-                    for shift in SHIFTS:
+                    for scramble in SCRAMBLES:
                         indexes = range(block << m, (block + 1) << m)
-                        points = [point_of(pair.words, index, shift) for index in indexes]
-                        self.every_cell(pair, m, block, shift, indexes, points)
+                        points = [point_of(pair.words, index, **scramble) for index in indexes]
+                        self.every_cell(pair, m, block, scramble, indexes, points)
 
-    def every_cell(self, pair, m, block, shift, indexes, points):
+    def every_cell(self, pair, m, block, scramble, indexes, points):
         for a in range(m + 1):
             there = {cell_of(point, m, a): index for point, index in zip(points, indexes)}
             self.assertEqual(len(there), 2**m)  # one visit in every cell
             for column in range(2**a):
                 for row in range(2**(m - a)):
-                    self.assertEqual(pair.query(5, m, a, column, row, block, shift), there[column, row])
+                    self.assertEqual(pair.query(5, m, a, column, row, block, **scramble), there[column, row])
 
     def test_large_shapes(self):
         chosen = random.Random(2)
         for m in (17, 31, 32):
             for a in (0, 1, m // 2, m):
                 column, row, block = chosen.randrange(2**a), chosen.randrange(2**(m - a)), chosen.randrange(2**(32 - m))
-                index = STANDARD.query(32, m, a, column, row, block, SHIFTS[2])
-                self.assertEqual(index >> m, block)
-                self.assertEqual(cell_of(point_of(STANDARD.words, index, SHIFTS[2]), m, a), (column, row))
+                for scramble in (SHIFTED, FLIPPED):
+                    index = STANDARD.query(32, m, a, column, row, block, **scramble)
+                    self.assertEqual(index >> m, block)
+                    self.assertEqual(cell_of(point_of(STANDARD.words, index, **scramble), m, a), (column, row))
+
+    def test_linear_matrix_scramble_passes(self):
+        # what docs/SCRAMBLING.md says of them: both matrices times a lower triangular one with ones on its diagonal are as good a pair
+        chosen, words = random.Random(17), []
+        for columns in (STANDARD.words[:32], STANDARD.words[32:]):
+            triangle = [2**(31 - row) | chosen.randrange(2**row) << 32 - row for row in range(32)]
+            words += [sum(bin(column & entries).count('1') % 2 << 31 - row for row, entries in enumerate(triangle)) for column in columns]
+        self.assertNotEqual(tuple(words), STANDARD.words)
+        self.assertIsNone(vektrid.Pair(words).check(32))
 
     def test_check_against_all_visits(self):
         # the standard pair with a few bits turned over: the first bad shape is found by looking at every visit
@@ -630,9 +703,10 @@ class Queries(unittest.TestCase):
             with self.assertRaises(vektrid.NotNet) as caught:
                 pair.check(5)
             self.assertEqual((caught.exception.m, caught.exception.a, caught.exception.j), bad)
-            with self.assertRaises(vektrid.NotNet) as caught:
-                pair.query(32, *bad[:2], 0, 0, 0, SHIFTS[2])
-            self.assertEqual((caught.exception.m, caught.exception.a, caught.exception.j), bad)
+            for scramble in (SHIFTED, FLIPPED):
+                with self.assertRaises(vektrid.NotNet) as caught:
+                    pair.query(32, *bad[:2], 0, 0, 0, **scramble)
+                self.assertEqual((caught.exception.m, caught.exception.a, caught.exception.j), bad)
         self.assertTrue(10 < passed < 140, passed)  # both answers have been seen
 
 
@@ -652,10 +726,10 @@ class Overviews(unittest.TestCase):
             for m in range(6):
                 for a in range(m + 1):
                     columns, rows = self.cells(m, a)
-                    for block, shift in ((0, SHIFTS[0]), (5, SHIFTS[2]), (2**(32 - m) - 1, SHIFTS[3])):
-                        single = [pair.query(32, m, a, *cell, block, shift) for cell in zip(columns, rows)]
-                        self.assertEqual(pair.overview(32, m, a, columns, rows, block, shift), single)
-                        self.assertEqual(pair.overview(m or 1, m, a, columns=columns, rows=rows, shift=shift, block=block), single)
+                    for block, scramble in ((0, {}), (5, SHIFTED), (2**(32 - m) - 1, SCRAMBLES[3]), (5, FLIPPED)):
+                        single = [pair.query(32, m, a, *cell, block, **scramble) for cell in zip(columns, rows)]
+                        self.assertEqual(pair.overview(32, m, a, columns, rows, block, **scramble), single)
+                        self.assertEqual(pair.overview(m or 1, m, a, columns=columns, rows=rows, block=block, **scramble), single)
                         self.assertEqual(sorted(single), list(range(block << m, (block + 1) << m)))
 
     def test_large_shapes(self):
@@ -664,10 +738,11 @@ class Overviews(unittest.TestCase):
             for a in (0, 1, m // 2, m):
                 columns, rows = ([chosen.randrange(2**bits) for _ in range(300)] for bits in (a, m - a))
                 block = chosen.randrange(2**(32 - m))
-                indexes = STANDARD.overview(32, m, a, columns, rows, block, SHIFTS[2])
-                self.assertEqual({index >> m for index in indexes}, {block})
-                points = [point_of(STANDARD.words, index, SHIFTS[2]) for index in indexes]
-                self.assertEqual([cell_of(point, m, a) for point in points], list(zip(columns, rows)))
+                for scramble in (SHIFTED, FLIPPED):
+                    indexes = STANDARD.overview(32, m, a, columns, rows, block, **scramble)
+                    self.assertEqual({index >> m for index in indexes}, {block})
+                    points = [point_of(STANDARD.words, index, **scramble) for index in indexes]
+                    self.assertEqual([cell_of(point, m, a) for point in points], list(zip(columns, rows)))
 
     def test_kinds(self):
         columns, rows = self.cells(4, 2)
@@ -733,15 +808,154 @@ class Overviews(unittest.TestCase):
         self.refused(ValueError, r'\[1\] = -1 does not fit', range(0, -4, -1))
 
 
+# ---- flips
+
+
+class Flips(unittest.TestCase):
+    """What is theirs alone; the tests above go by SCRAMBLES, which have flips too."""
+
+    def with_bits(self, *numbers):
+        """The flips of an axis with these flip bits set."""
+        return sum(2**number for number in numbers).to_bytes(32, 'little')
+
+    def test_leading_bits_before_any_flip(self):
+        # flip bit 0 turns the first bit of each, and flip bit 2 the second bit of those whose first bit was one before it was turned
+        known = [(0x00000000, 0x80000000), (0x40000000, 0xC0000000), (0x80000000, 0x40000000), (0xC0000000, 0x00000000)]
+        for index, (product, expected) in zip((0, 2, 1, 3), known):
+            self.assertEqual(STANDARD.point(index).x, product)
+            self.assertEqual(STANDARD.point(index, flips=(self.with_bits(0, 2), NONE)).x, expected)
+
+    def test_flips_come_before_the_shift(self):
+        self.assertEqual(STANDARD.point(1, (0x80000001, 0x00000010), flips=(self.with_bits(2), self.with_bits(1, 6))), (0x40000001, 0x80000010))
+
+    def test_each_flip_bit_alone(self):
+        # of the 256 strips that the first indexes visit, those that begin with p change, in bit t; deeper bits pass
+        xs, ys = STANDARD.fill(2**31, 256, SHIFTS[2])
+        for t in range(8):
+            for p in range(2**t):
+                flips = self.with_bits(2**t - 1 + p)
+                for words, axis, given in ((xs, 0, (flips, NONE)), (ys, 1, (NONE, flips))):
+                    begins = p ^ SHIFTS[2][axis] >> 32 - t  # as the strip is numbered after the shift
+                    expected = [word ^ 2**(31 - t) if word >> 32 - t == begins else word for word in words]
+                    self.assertEqual(STANDARD.fill(2**31, 256, SHIFTS[2], flips=given)[axis], expected)
+                    self.assertEqual(STANDARD.fill(2**31, 256, SHIFTS[2], flips=given)[1 - axis], (xs, ys)[1 - axis])
+
+    def test_without_flips_as_before(self):
+        for none in (None, (NONE, NONE), [bytearray(32), memoryview(NONE)]):
+            for shift in SHIFTS:
+                self.assertEqual(STANDARD.point(77, shift, flips=none), STANDARD.point(77, shift))
+                self.assertEqual(STANDARD.point_singles(77, shift, flips=none), STANDARD.point_singles(77, shift))
+                self.assertEqual(vektrid.standard_point(77, shift, flips=none), STANDARD.point(77, shift))
+                self.assertEqual(STANDARD.fill(77, 9, shift, flips=none), STANDARD.fill(77, 9, shift))
+                self.assertEqual(list(STANDARD.walk(77, 9, shift, flips=none)), list(STANDARD.walk(77, 9, shift)))
+                self.assertEqual(list(STANDARD.walk_singles(77, 9, shift, flips=none)), list(STANDARD.walk_singles(77, 9, shift)))
+                self.assertEqual(STANDARD.query(32, 9, 4, 3, 30, 7, shift, flips=none), STANDARD.query(32, 9, 4, 3, 30, 7, shift))
+                self.assertEqual(STANDARD.overview(32, 9, 4, [3], [30], 7, shift, flips=none), STANDARD.overview(32, 9, 4, [3], [30], 7, shift))
+
+    def test_every_cell_around_the_depth(self):
+        # each cell of each shape holds one visit of the block, which the overview names, with fewer bits than are flipped and with more
+        for seed, (m, block) in enumerate([(3, 2**29 - 1), (7, 0), (8, 5), (9, 2**23 - 1), (10, 77)]):
+            scramble = vektrid.random_scramble(seed)
+            for pair in (STANDARD, SWAPPED):
+                indexes = range(block << m, (block + 1) << m)
+                points = [point_of(pair.words, index, **scramble) for index in indexes]
+                for a in range(m + 1):
+                    there = {cell_of(point, m, a): index for point, index in zip(points, indexes)}
+                    self.assertEqual(len(there), 2**m)
+                    columns, rows = zip(*there)
+                    self.assertEqual(pair.overview(m, m, a, columns, rows, block, **scramble), list(there.values()))
+                    column, row = columns[seed], rows[seed]
+                    self.assertEqual(pair.query(m, m, a, column, row, block, **scramble), there[column, row])
+
+    def test_relation_to_the_plain_run_needs_no_flips(self):
+        # by added bits, column c would have the visit of column c xor u of the plain run, u being the column of the first visit
+        flips = self.with_bits(1), NONE  # columns 0 and 1 of four change places, and columns 2 and 3 stay
+        overview = STANDARD.overview(32, 2, 2, range(4), 4 * [0], flips=flips)
+        self.assertEqual(overview, [2, 0, 1, 3])
+        first = STANDARD.point(0, flips=flips).x >> 30
+        self.assertNotEqual(overview, STANDARD.overview(32, 2, 2, [column ^ first for column in range(4)], 4 * [0]))
+
+    def test_any_buffers_of_bytes(self):
+        x, y = FLIPPED['flips']
+        expected = STANDARD.point(77, flips=(x, y))
+        kinds = [bytes, bytearray, memoryview, lambda each: array.array('B', each), lambda each: (ctypes.c_uint8 * 32)(*each),
+                 lambda each: memoryview(each[::-1])[::-1], lambda each: array.array('b', array.array('B', each).tobytes())]
+        for make_x in kinds:
+            for make_y in kinds:
+                self.assertEqual(STANDARD.point(77, flips=(make_x(x), make_y(y))), expected)
+        self.assertEqual(STANDARD.point(77, flips=iter([x, y])), expected)
+
+    def test_len_of_a_subclass_is_not_believed(self):
+        class Otherwise(bytes):
+            def __len__(self):
+                return 32
+        self.assertRaises(vektrid.FlipBytes, STANDARD.point, 0, flips=(Otherwise(bytes(31)), NONE))
+
+    def test_no_bytes(self):
+        for wrong in (0, 'flips', NONE, 64 * b'a', (), (NONE,), 3 * (NONE,), vektrid.random_scramble):
+            for call in RefusalTable.TAKING_FLIPS:
+                with self.assertRaisesRegex(TypeError, f'flips is a {type(wrong).__name__}, and not the bytes of two axes'):
+                    call(wrong)
+        for wrong, said in [(32, 'a int'), (None, 'a NoneType'), (32 * [0], 'a list'), (32 * 'a', 'a str'), (array.array('H', 16 * [0]), 'type H'),
+                            (array.array('I', 8 * [0]), 'type I'), ((ctypes.c_bool * 32)(), r'type <?\?')]:
+            for axis, flips in (('x', (wrong, NONE)), ('y', (NONE, wrong)), ('x', (wrong, wrong))):
+                for call in RefusalTable.TAKING_FLIPS:
+                    self.assertRaisesRegex(TypeError, f'flips {axis} (is|has items of) {said}; its content is needed as bytes', call, flips)
+        self.assertRaisesRegex(TypeError, 'flips x is a str', STANDARD.point, 0, flips=vektrid.random_scramble(0))  # without its asterisks
+
+    def test_only_by_name(self):
+        for call, given in [(STANDARD.point, (0,)), (STANDARD.point_singles, (0,)), (vektrid.standard_point, (0,)), (STANDARD.walk, (0, 1)),
+                            (STANDARD.walk_singles, (0, 1)), (STANDARD.query, (32, 2, 1, 1, 0, 0)), (STANDARD.overview, (32, 2, 1, [1], [0], 0))]:
+            call(*given, (0, 0), flips=(NONE, NONE))
+            self.assertRaises(TypeError, call, *given, (0, 0), (NONE, NONE))
+        self.assertRaises(TypeError, STANDARD.fill, 0, 1, (0, 0), False, (NONE, NONE))  # the fourth has long been numpy
+
+    def test_changed_while_walked(self):
+        flips = bytearray(MOST), bytearray(MOST)
+        walk = STANDARD.walk(5, 3, flips=flips)
+        for each in flips:
+            each[:] = bytes(40)
+        self.assertEqual(list(walk), list(STANDARD.walk(5, 3, flips=(MOST, MOST))))
+
+
+class RandomScrambles(unittest.TestCase):
+
+    def test_known_scrambles(self):
+        # as rust/reference has them; the last would have flip bit 255 of both axes set
+        for seed, shift, x, y in [
+                (0, (0x7B1DCDAF, 0xE220A839), 'f465b9a16a9e786e4f450980185dc406ec814c72a8b88bf89b74a8516a89391b',
+                 'eaa27e740c9fcb53e132451fbe9a822c3cab16c93a1384c5c38ac9419078e53e'),
+                (1, (0x89025CC1, 0x910A2DEC), '67ec8e65a18debbe5e5532fbeea293f80bc942ee9086c171b9b501d1d854bb71',
+                 '80021590ff0b4dc3a53c36d76cec99e0758527120fbbe785a83d7e35de181749'),
+                (2**64 - 1, (0x1B652C20, 0xE4D97177), 'c982f6db67f89fe9e98172b24cf82f38d282a9cb6cb31d6dae6980572e47a034',
+                 '33bb38a4bdad1dd3a53f0802f82c4ff164809ea338a45d40840c6e1508a7fe44')]:
+            expected = dict(shift=shift, flips=(bytes.fromhex(x), bytes.fromhex(y)))
+            self.assertEqual(vektrid.random_scramble(seed), expected)
+
+    def test_published_numbers(self):
+        # the first five numbers of SplitMix64 from 1234567, as they are published with other programs of it
+        numbers = [6457827717110365317, 3203168211198807973, 9817491932198370423, 4593380528125082431, 16408922859458223821]
+        scramble = vektrid.random_scramble(1234567)
+        self.assertEqual(scramble['shift'], (numbers[0] % 2**32, numbers[0] // 2**32))
+        self.assertEqual(scramble['flips'][0], struct.pack('<4Q', *numbers[1:4], numbers[4] % 2**63))
+
+    def test_accepted_and_handed_on(self):
+        for seed in range(100):
+            scramble = vektrid.random_scramble(seed)
+            self.assertEqual(STANDARD.point(seed, **scramble), point_of(STANDARD.words, seed, **scramble))
+            scramble['flips'] = None  # the caller's own: the next one is made anew
+            self.assertNotEqual(vektrid.random_scramble(seed), scramble)
+
+
 # ---- counts that stop anywhere
 
 
 class Counts(unittest.TestCase):
     """How many of n consecutive visits a cell holds. docs/COUNTS.md has tables of the bounds."""
 
-    def counted(self, n, m, a, start, pair=STANDARD, shift=(0, 0)):
+    def counted(self, n, m, a, start, pair=STANDARD, **scramble):
         """The number of visits of each cell that has any, as a fill gives them."""
-        return collections.Counter(cell_of(point, m, a) for point in zip(*pair.fill(start, n, shift)))
+        return collections.Counter(cell_of(point, m, a) for point in zip(*pair.fill(start, n, **scramble)))
 
     def test_formulas(self):
         for m in range(33):
@@ -775,14 +989,14 @@ class Counts(unittest.TestCase):
         self.assertEqual(max(max(self.counted(50, 4, 2, start).values()) for start in range(256)), 4)
 
     def test_no_cell_leaves_them(self):
-        for pair, shift in [(STANDARD, SHIFTS[0]), (STANDARD, SHIFTS[2]), (SWAPPED, SHIFTS[3])]:
+        for pair, scramble in [(STANDARD, {}), (STANDARD, SHIFTED), (SWAPPED, SCRAMBLES[3]), (STANDARD, FLIPPED)]:
             for start, n in [(0, 50), (1, 64), (463, 50), (1000, 300), (LAST - 98, 99)]:
                 for m in range(9):
                     for a in range(m + 1):
-                        counted = self.counted(n, m, a, start, pair, shift)
+                        counted = self.counted(n, m, a, start, pair, **scramble)
                         smallest = min(counted.values()) if len(counted) == 2**m else 0
                         for least, most in (vektrid.count_bounds(n, m), vektrid.count_bounds(n, m, start=start)):
-                            self.assertTrue(least <= smallest and max(counted.values()) <= most, (shift, start, n, m, a))
+                            self.assertTrue(least <= smallest and max(counted.values()) <= most, (scramble, start, n, m, a))
 
     def test_arguments(self):
         for name, call, low, high in [('n', lambda value: vektrid.count_bounds(value, 4), 1, 2**32),
@@ -1066,7 +1280,7 @@ class Arguments(unittest.TestCase):
               ('shift y', lambda value: STANDARD.overview(32, 2, 1, [0], [0], shift=(0, value)))]
     EDGES = [('left', lambda value: vektrid.Region(value, 0, 1, 1)), ('top', lambda value: vektrid.Region(0, value, 1, 1))]
     COUNTS = [('count', lambda value: STANDARD.fill(0, value)), ('count', lambda value: STANDARD.walk(0, value)),
-              ('count', lambda value: STANDARD.walk_singles(0, value))]
+              ('count', lambda value: STANDARD.walk_singles(0, value)), ('seed', vektrid.random_scramble)]
 
     def test_no_whole_number(self):
         for name, call in self.WORDS + self.EDGES + self.COUNTS:
@@ -1179,6 +1393,22 @@ class Numpy(unittest.TestCase):
         with self.assertRaises(vektrid.Cell) as caught:
             STANDARD.overview(32, 4, 2, words, words + numpy.uint32(4))
         self.assertEqual(caught.exception.place, 0)
+
+    def test_flips(self):
+        x, y = (numpy.frombuffer(each, dtype=numpy.uint8) for each in FLIPPED['flips'])
+        expected = STANDARD.point(77, **FLIPPED)
+        for flips in ((x, y), numpy.stack([x, y]), (x.copy()[::-1].copy()[::-1], bytes(y)), (x.reshape(4, 8), y.view(numpy.int8))):
+            self.assertEqual(STANDARD.point(77, FLIPPED['shift'], flips=flips), expected)
+        xs, ys = STANDARD.fill(512, 512, numpy=True, **FLIPPED)
+        self.assertEqual([xs.tolist(), ys.tolist()], list(STANDARD.fill(512, 512, **FLIPPED)))
+        self.assertEqual(STANDARD.overview(32, 9, 4, xs >> 28, ys >> 27, 1, **FLIPPED).tolist(), list(range(512, 1024)))
+        for wrong in (x.astype(bool), x.astype('u2'), x.view('u4'), x.astype(object), numpy.zeros(32, 'M8[s]')):
+            self.assertRaisesRegex(TypeError, 'flips y .* is needed as bytes', STANDARD.point, 77, flips=(x, wrong))
+        self.assertRaises(vektrid.FlipBytes, STANDARD.point, 77, flips=numpy.zeros((2, 256), dtype=numpy.uint8))  # a byte for each flip bit
+        self.assertRaises(TypeError, STANDARD.point, 77, flips=numpy.zeros(64, dtype=numpy.uint8))
+        words = numpy.full(8, 7, dtype=numpy.uint32)
+        self.assertRaises(vektrid.FlipBit, STANDARD.fill, 0, (words[:4], words[4:]), flips=(~(x & 0), y))
+        self.assertEqual(words.tolist(), 8 * [7])
 
     def test_numbers(self):
         self.assertEqual(STANDARD.point(numpy.uint32(5), (numpy.uint64(0), numpy.int8(0))), STANDARD.point(5))

@@ -1,16 +1,19 @@
 """Vektrid, the proved visit planner, in Python: points of a (0,2)-sequence and back, stage positions, region files.
 
-Every answer but that of count_bounds, which is arithmetic by proved bounds, comes from the proved library, target/libvektrid.so (tools/archive makes
-it; its C interface is include/vektrid.h). This file only converts: it keeps from the library what the proofs assume cannot happen (a number that does
-not fit, a pointer to nothing, buffers that overlap).
+Every answer comes from the proved library, target/libvektrid.so (tools/archive makes it; its C interface is include/vektrid.h), but for those of
+count_bounds, which is arithmetic by proved bounds, and of random_scramble, which draws numbers. This file only converts: it keeps from the library
+what the proofs assume cannot happen (a number that does not fit, a pointer to nothing, buffers that overlap).
 
 A refused call raises the subclass of Refusal for its line of the refusal table (docs/REFUSALS.md), and lent buffers keep their content. A number
 that is no whole number raises TypeError, and one that has no place in the library's 32 or 64 bits raises ValueError; nothing is cut or rounded
 to fit.
 
-The words of the literature stand first and the planner's own behind in brackets: generator matrices (pair), digital shift (scramble), elementary
-interval (cell), cursor (walk). A word is a whole number from 0 to 2^32 - 1; a coordinate word w stands for w / 2^32. Only the standard library is
-needed; numpy is used if asked for.
+The words of the literature stand first and the planner's own behind in brackets: generator matrices (pair), nested scrambling to depth 8 (flips),
+digital shift (shift), elementary interval (cell), cursor (walk). A word is a whole number from 0 to 2^32 - 1; a coordinate word w stands for
+w / 2^32. Only the standard library is needed; numpy is used if asked for.
+
+Each call that gives points or looks for them takes a scramble: `shift`, two words, and `flips`, two times 32 bytes, x first. Without them nothing is
+shifted or flipped. docs/SCRAMBLING.md says what flips are, and random_scramble(seed) gives both.
 
 >>> import vektrid
 >>> pair = vektrid.Pair.standard()
@@ -18,6 +21,8 @@ needed; numpy is used if asked for.
 Point(x=2684354560, y=536870912)
 >>> pair.query(32, 2, 1, column=1, row=0, block=1)
 5
+>>> pair.point(5, shift=(0x40000000, 0), flips=(bytes([0x21] + 31 * [0]), bytes(32)))
+Point(x=1073741824, y=536870912)
 >>> vektrid.Region(-500, 0, 1000, 800).position(0x40000000, 0xC0000000)
 Position(x=-250, y=600)
 >>> vektrid.Region(-500, 0, 1000, 800).position(0x40000000, 0xC0000000, field=(200, 100))
@@ -29,6 +34,7 @@ vektrid.Level: refusal 2: a level is not 1 to 32: level = 33
 import array
 import collections
 import ctypes
+import itertools
 import operator
 import os
 import struct
@@ -36,12 +42,13 @@ import sys
 from typing import NamedTuple
 
 __all__ = ['ABI', 'Refusal', 'WordCount', 'Level', 'NotNet', 'Size', 'Shape', 'Cell', 'Block', 'BufferLengths', 'IndexRange', 'RegionLimits',
-           'FileLength', 'ReservedBytes', 'MissingRecord', 'ChainReturns', 'VisitCount', 'Field', 'Point', 'Singles', 'Visit', 'SinglesVisit',
-           'Position', 'FileVisit', 'CountBounds', 'Pair', 'Walk', 'SinglesWalk', 'Region', 'standard_point', 'count_bounds', 'double', 'single',
-           'judge', 'visits', 'listing', 'listing_pieces', 'sheet', 'sheet_pieces', 'sheet_pages', 'LARGEST_LEVEL', 'LAST_INDEX', 'LONGEST_LINE']
+           'FileLength', 'ReservedBytes', 'MissingRecord', 'ChainReturns', 'VisitCount', 'Field', 'FlipBytes', 'FlipBit', 'Point', 'Singles',
+           'Visit', 'SinglesVisit', 'Position', 'FileVisit', 'CountBounds', 'Pair', 'Walk', 'SinglesWalk', 'Region', 'standard_point',
+           'random_scramble', 'count_bounds', 'double', 'single', 'judge', 'visits', 'listing', 'listing_pieces', 'sheet', 'sheet_pieces',
+           'sheet_pages', 'LARGEST_LEVEL', 'LAST_INDEX', 'LONGEST_LINE']
 
-__version__ = '1.4.0'  # of the bindings; rust/vektrid has the same
-ABI = 4  # the number of the interface that this file is written for: VEKTRID_ABI of the header
+__version__ = '1.5.0'  # of the bindings; rust/vektrid has the same
+ABI = 5  # the number of the interface that this file is written for: VEKTRID_ABI of the header
 
 LARGEST_LEVEL = 32
 LAST_INDEX = 2**32 - 1  # and the largest word
@@ -208,6 +215,23 @@ class Field(Refusal):
     details = '{where}the field is {field_width} by {field_height} micrometres (0 counts as 1), and the region {width} by {height}'
 
 
+class FlipBytes(Refusal):
+    """17: the flips of an axis are not 32 bytes."""
+    number = 17
+    words = 'the flips of an axis are not 32 bytes'
+    details = 'those of x are {bytes_x} and those of y {bytes_y}'
+
+
+class FlipBit(Refusal):
+    """18: flip bit 255 of an axis is set.
+
+    It belongs to no bit of a coordinate.
+    """
+    number = 18
+    words = 'flip bit 255 of an axis is set'
+    details = 'byte 31 is {last_x} for x and {last_y} for y; below 128 is needed'
+
+
 _REFUSALS = {kind.number: kind for kind in Refusal.__subclasses__()}
 
 
@@ -289,9 +313,11 @@ class _SheetCursor(ctypes.Structure):
 
 
 _WORD, _LONG, _SIGNED, _SIZE = ctypes.c_uint32, ctypes.c_uint64, ctypes.c_int32, ctypes.c_size_t
-_SINGLE, _FILE = ctypes.c_float, [ctypes.c_char_p, ctypes.c_size_t]  # a file is lent as bytes, which no call writes
+_SINGLE = ctypes.c_float
+_FILE = _FLIPS = [ctypes.c_char_p, ctypes.c_size_t]  # a file and the flips of an axis are lent as bytes, which no call writes
 _TO_WORD, _TO_LONG, _TO_SIGNED, _TO_SINGLE = (ctypes.POINTER(kind) for kind in (_WORD, _LONG, _SIGNED, _SINGLE))
-_PAIR = [_TO_WORD, _SIZE, _WORD, _WORD]  # the words, how many, and the two words of the shift
+_SCRAMBLE = [_WORD, _WORD] + 2 * _FLIPS  # the two words of the shift, and the flips of both axes
+_PAIR = [_TO_WORD, _SIZE] + _SCRAMBLE  # the words, how many, and the scramble
 _BUFFER = [ctypes.POINTER(ctypes.c_uint8), _SIZE]  # where a piece of text is written
 
 # For each call of include/vektrid.h: the type of its answer, and those of its arguments.
@@ -300,7 +326,7 @@ _CALLS = {
     'vektrid_standard_pair': (_WORD, [_TO_WORD, _SIZE]),
     'vektrid_check': (_WORD, [_TO_WORD, _SIZE, _WORD] + 3 * [_TO_WORD]),
     'vektrid_point': (_WORD, _PAIR + [_WORD, _TO_WORD, _TO_WORD]),
-    'vektrid_standard_point': (None, [_WORD, _WORD, _WORD, _TO_WORD, _TO_WORD]),
+    'vektrid_standard_point': (_WORD, _SCRAMBLE + [_WORD, _TO_WORD, _TO_WORD]),
     'vektrid_fill': (_WORD, _PAIR + [_WORD, _TO_WORD, _SIZE, _TO_WORD, _SIZE]),
     'vektrid_walk_open': (_WORD, [_WORD, _LONG, _TO_WORD, _TO_LONG]),
     'vektrid_walk_step': (_WORD, _PAIR + [_TO_WORD, _TO_LONG, _TO_WORD, _TO_WORD, _TO_WORD, _TO_WORD]),
@@ -396,6 +422,21 @@ def _shift(shift):
     return _whole('shift x', x), _whole('shift y', y)
 
 
+def _flips(flips):
+    """The flips of both axes, x first: the bytes of each and how many they are."""
+    if flips is None:
+        return _NO_FLIPS
+    try:
+        x, y = flips
+    except (TypeError, ValueError):
+        raise TypeError(f'flips is a {type(flips).__name__}, and not the bytes of two axes, (x, y)') from None
+    x, y = _bytes('flips x', x), _bytes('flips y', y)
+    return x, len(x), y, len(y)
+
+
+_NO_FLIPS = 2 * (bytes(32), 32)
+
+
 def _field(field):
     """The width and the height of the reader's field."""
     try:
@@ -477,26 +518,37 @@ def _answers(count, *asked):
     return (ctypes.c_uint32 * count)()
 
 
-def _content(file):
-    """The bytes of a region file. A buffer that may change is copied, so that an iterator over it goes on with what it began with."""
-    if type(file) is bytes:  # and no subclass, whose len may be anything
-        return file
-    view = _view(file)
+def _bytes(name, content):
+    """Bytes for the library to read. A buffer that may change is copied, so that an iterator goes on with what it began with."""
+    if type(content) is bytes:  # and no subclass, whose len may be anything
+        return content
+    view = _view(content)
     if view is None:
-        raise TypeError(f'file is a {type(file).__name__}; its content is needed as bytes')
-    if view.itemsize != 1:
-        raise TypeError(f'file has items of {view.itemsize} bytes (type {view.format}); its content is needed as bytes')
+        raise TypeError(f'{name} is a {type(content).__name__}; its content is needed as bytes')
+    if view.itemsize != 1 or '?' in view.format:  # truth values, which numpy keeps in a byte each
+        raise TypeError(f'{name} has items of type {view.format}; its content is needed as bytes')
     return view.tobytes()
 
 
 # ---- generator matrices: points, fills, walks, queries
 
 
-def _accept_cells(number, j, given):
+def _accept_under(number, under, **given):
+    """Raises the refusal that a call under a scramble answered, if it is one. `under` ends with what _flips gave, for the message to show."""
+    if number:
+        flips_x, bytes_x, flips_y, bytes_y = under[-4:]
+        if number == FlipBytes.number:
+            given = dict(bytes_x=bytes_x, bytes_y=bytes_y)
+        if number == FlipBit.number:
+            given = dict(last_x=flips_x[31], last_y=flips_y[31])
+        raise _refusal(number, given)
+
+
+def _accept_cells(number, under, j, given):
     """Raises the refusal that a query or an overview answered, if it is one, with the values that were given."""
     if number:
         rest = 32 - given['m'] if number == Block.number else given['m'] - given['a']
-        _accept(number, **{'where': '', 'j': j.value, 'rest': rest, **given})
+        _accept_under(number, under, **{'where': '', 'j': j.value, 'rest': rest, **given})
 
 
 def _first_outside(columns, rows, m, a):
@@ -508,8 +560,13 @@ def _first_outside(columns, rows, m, a):
 class Pair:
     """Two generator matrices (pair), copied from 64 words: the 32 columns of X, then those of Y. Never changes.
 
-    Column c belongs to index bit c, and the top bit of a word is row 0. A coordinate of an index is the exclusive or of the columns whose
-    index bit is set, and then of that axis's word of the digital shift (scramble). Points, fills and walks take any matrices, checked or not.
+    Column c belongs to index bit c, and the top bit of a word is row 0. The product of an index is the exclusive or of the columns whose index
+    bit is set. It is flipped by the flips of its axis, and then that axis's word of the digital shift is added, exclusive or. That is the
+    coordinate. Points, fills and walks take any matrices, checked or not.
+
+    The flips (Owen's nested scrambling to depth 8) are 32 bytes for each axis, (x, y), in any buffers of bytes; they are copied. Bit t from the top
+    of a product, t from 0 to 7, is flipped where flip bit 2^t - 1 + p is set, p being the t bits above it in the product, read as a number; flip
+    bit n is bit n % 8 of byte n // 8, both from the lowest. None, the default, flips nothing. Anything but bytes raises TypeError.
 
     Refused: WordCount.
     """
@@ -543,96 +600,100 @@ class Pair:
     def __repr__(self):
         return f'Pair([{", ".join(f"0x{word:08X}" for word in self._words)}])'
 
-    def _under(self, shift):
-        """The first arguments of most calls: the words, how many they are, and the shift."""
-        return (self._words, len(self._words)) + _shift(shift)
+    def _under(self, shift, flips):
+        """The first arguments of most calls: the words, how many they are, and the scramble."""
+        return (self._words, len(self._words)) + _shift(shift) + _flips(flips)
 
     def check(self, level):
         """Passes if every block of 2^m visits, m up to the level, is a net: one visit in every elementary interval (cell) of every shape.
 
-        Gives None. Refused: Level; NotNet, with the first bad shape (m, a), m rising and then a rising, and its least index j.
+        It is then a net under every scramble. Gives None. Refused: Level; NotNet, with the first bad shape (m, a), m rising and then a rising, and
+        its least index j.
         """
         level = _whole('level', level)
         m, a, j = (ctypes.c_uint32() for _ in range(3))
         number = _library.vektrid_check(self._words, len(self._words), level, m, a, j)
         _accept(number, level=level, m=m.value, a=a.value, j=j.value)
 
-    def _point(self, call, kind, index, shift):
+    def _point(self, call, kind, index, under):
         x, y = kind(), kind()
-        number = call(*self._under(shift), _whole('index', index), x, y)
-        _accept(number, count=len(self._words))
+        number = call(*under, _whole('index', index), x, y)
+        _accept_under(number, under, count=len(self._words))
         return x.value, y.value
 
-    def point(self, index, shift=(0, 0)):
-        """The Point of an index under a digital shift (scramble): two coordinate words. The index is 0 to 2^32 - 1. Nothing is refused."""
-        return Point(*self._point(_library.vektrid_point, ctypes.c_uint32, index, shift))
+    def point(self, index, shift=(0, 0), *, flips=None):
+        """The Point of an index under a scramble: two coordinate words. The index is 0 to 2^32 - 1. Refused: FlipBytes, FlipBit."""
+        return Point(*self._point(_library.vektrid_point, ctypes.c_uint32, index, self._under(shift, flips)))
 
-    def point_singles(self, index, shift=(0, 0)):
-        """The point of an index as Singles: both coordinates as numbers from 0 up to and without 1. Nothing is refused."""
-        return Singles(*self._point(_library.vektrid_point_singles, ctypes.c_float, index, shift))
+    def point_singles(self, index, shift=(0, 0), *, flips=None):
+        """The point of an index as Singles: both coordinates as numbers from 0 up to and without 1. Refused: FlipBytes, FlipBit."""
+        return Singles(*self._point(_library.vektrid_point_singles, ctypes.c_float, index, self._under(shift, flips)))
 
-    def fill(self, start, into, shift=(0, 0), numpy=False):
+    def fill(self, start, into, shift=(0, 0), numpy=False, *, flips=None):
         """The points of the indexes from `start` on, as two buffers of coordinate words. Gives (xs, ys).
 
         `into` is either two buffers (xs, ys), which are filled in place, every word of them and without a copy; or a count, and then two lists
         are given, or with numpy=True two numpy arrays of uint32. Buffers are numpy arrays of uint32, array.array('I') or ctypes arrays of
         c_uint32, one-dimensional, contiguous and writeable (else TypeError), and must not overlap (else ValueError).
 
-        Refused: BufferLengths, IndexRange; the buffers then keep their content.
+        Refused, in this order: FlipBytes, FlipBit, BufferLengths, IndexRange; the buffers then keep their content.
         """
-        start = _whole('start', start)
+        start, under = _whole('start', start), self._under(shift, flips)
         if not hasattr(type(into), '__len__'):
-            return self._fill_new(start, into, shift, numpy)
+            return self._fill_new(start, into, under, numpy)
         try:
             xs, ys = into
         except (TypeError, ValueError):
             raise TypeError('a fill takes a count, or two buffers (xs, ys)') from None
-        self._fill(start, _lent('xs', xs), _lent('ys', ys), shift)
+        self._fill(start, _lent('xs', xs), _lent('ys', ys), under)
         return xs, ys
 
-    def _fill(self, start, lent_xs, lent_ys, shift):
+    def _fill(self, start, lent_xs, lent_ys, under):
         """Fills two buffers in place, each given as _lent gives it."""
         _apart(*lent_xs, *lent_ys)
         (xs, xs_count), (ys, ys_count) = lent_xs, lent_ys
-        number = _library.vektrid_fill(*self._under(shift), start, xs, xs_count, ys, ys_count)
+        number = _library.vektrid_fill(*under, start, xs, xs_count, ys, ys_count)
         if number:
-            _accept(number, lengths=f'xs has {xs_count} words and ys has {ys_count}', xs=xs_count, ys=ys_count, start=start, count=xs_count)
+            lengths = f'xs has {xs_count} words and ys has {ys_count}'
+            _accept_under(number, under, lengths=lengths, xs=xs_count, ys=ys_count, start=start, count=xs_count)
 
-    def _fill_new(self, start, count, shift, numpy):
+    def _fill_new(self, start, count, under, numpy):
         """Two new lists or numpy arrays."""
-        count = Walk(self, start, count, shift).left  # a walk is refused as the fill would be, before there is memory for it
+        # a point and then a walk are refused as the fill would be, before there is memory for it
+        self._point(_library.vektrid_point, ctypes.c_uint32, start, under)
+        _, count = _open(start, count)
         if numpy:
             import numpy as np
             xs, ys = np.empty(count, dtype=np.uint32), np.empty(count, dtype=np.uint32)
         else:
             xs, ys = (ctypes.c_uint32 * count)(), (ctypes.c_uint32 * count)()
-        self._fill(start, _lent('xs', xs), _lent('ys', ys), shift)
+        self._fill(start, _lent('xs', xs), _lent('ys', ys), under)
         return (xs, ys) if numpy else (xs[:], ys[:])
 
-    def walk(self, start, count, shift=(0, 0)):
-        """A Walk over `count` visits from index `start` on: an iterator of Visit. Refused: IndexRange."""
-        return Walk(self, start, count, shift)
+    def walk(self, start, count, shift=(0, 0), *, flips=None):
+        """A Walk over `count` visits from index `start` on: an iterator of Visit. Refused: IndexRange; FlipBytes and FlipBit at each step."""
+        return Walk(self, start, count, shift, flips)
 
-    def walk_singles(self, start, count, shift=(0, 0)):
-        """The same with each point as singles: an iterator of SinglesVisit. Refused: IndexRange."""
-        return SinglesWalk(self, start, count, shift)
+    def walk_singles(self, start, count, shift=(0, 0), *, flips=None):
+        """The same with each point as singles: an iterator of SinglesVisit. Refused: as walk says."""
+        return SinglesWalk(self, start, count, shift, flips)
 
-    def query(self, level, m, a, column, row, block, shift=(0, 0)):
+    def query(self, level, m, a, column, row, block, shift=(0, 0), *, flips=None):
         """The one index of a block whose point lies in an elementary interval (cell). Gives an int.
 
         The shape (m, a) has 2^a columns and 2^(m-a) rows. A point's column is the top a bits of its x, its row the top m-a bits of its y.
         Block k has the indexes from k * 2^m to (k+1) * 2^m - 1. The level only bounds m; the pair need not be checked before.
 
-        Refused, in this order: Level, Size, Shape, Cell, Block, NotNet (with this shape and its least index j).
+        Refused, in this order: Level, FlipBytes, FlipBit, Size, Shape, Cell, Block, NotNet (with this shape and its least index j).
         """
         names = ('level', 'm', 'a', 'column', 'row', 'block')
         given = {name: _whole(name, value) for name, value in zip(names, (level, m, a, column, row, block))}
-        index, j = ctypes.c_uint32(), ctypes.c_uint32()
-        number = _library.vektrid_query(*self._under(shift), *given.values(), index, j)
-        _accept_cells(number, j, given)
+        under, index, j = self._under(shift, flips), ctypes.c_uint32(), ctypes.c_uint32()
+        number = _library.vektrid_query(*under, *given.values(), index, j)
+        _accept_cells(number, under, j, given)
         return index.value
 
-    def overview(self, level, m, a, columns, rows, block=0, shift=(0, 0)):
+    def overview(self, level, m, a, columns, rows, block=0, shift=(0, 0), *, flips=None):
         """What query gives for many elementary intervals (cells) of one shape and block, in one call: for the cell (columns[i], rows[i]) at place i.
 
         Columns and rows are lists, or anything else that gives whole numbers one by one, or one-dimensional buffers of 32-bit unsigned words:
@@ -640,8 +701,8 @@ class Pair:
         that its `tolist` gives is taken. Both are copied, and never changed. Gives a numpy array of uint32 where one of the two is a numpy array,
         else an array.array('I') where one is a buffer, else a list.
 
-        Refused, in this order: BufferLengths, Level, Size, Shape, Cell for the first cell, Block, NotNet, Cell for the later cells. Without cells
-        all but Cell are judged all the same.
+        Refused, in this order: BufferLengths, Level, FlipBytes, FlipBit, Size, Shape, Cell for the first cell, Block, NotNet, Cell for the later
+        cells. Without cells all but Cell are judged all the same.
 
         >>> import vektrid
         >>> vektrid.Pair.standard().overview(32, 2, 1, columns=[0, 1, 0, 1], rows=[0, 0, 1, 1])
@@ -649,30 +710,38 @@ class Pair:
         """
         given = {name: _whole(name, value) for name, value in (('level', level), ('m', m), ('a', a), ('block', block))}
         column_words, row_words = _read('columns', columns), _read('rows', rows)
-        answers, j = _answers(len(column_words), columns, rows), ctypes.c_uint32()
-        number = _library.vektrid_overview(*self._under(shift), *given.values(), column_words, len(column_words), row_words, len(row_words),
+        under, answers, j = self._under(shift, flips), _answers(len(column_words), columns, rows), ctypes.c_uint32()
+        number = _library.vektrid_overview(*under, *given.values(), column_words, len(column_words), row_words, len(row_words),
                                            *_lent('answers', answers), j)
         if number == Cell.number:
             given.update(_first_outside(column_words, row_words, given['m'], given['a']))
         if number == BufferLengths.number:
             given.update(lengths=f'columns has {len(column_words)} words and rows has {len(row_words)}')
-        _accept_cells(number, j, given)
+        _accept_cells(number, under, j, given)
         return answers[:] if isinstance(answers, ctypes.Array) else answers
+
+
+def _open(start, count):
+    """A walk before its first step: the index of the next visit, and how many visits are left."""
+    start, count = _whole('start', start), _whole('count', count, high=2**64 - 1)
+    following, left = ctypes.c_uint32(), ctypes.c_uint64()
+    _accept(_library.vektrid_walk_open(start, count, following, left), start=start, count=count)
+    return following.value, left.value
 
 
 class Walk:
     """A cursor over visits (walk), made by Pair.walk: an iterator of Visit, from the start index on.
 
-    `next` is the index of the next visit and `left` how many visits are left. pair.walk(walk.next, walk.left, shift) goes on from there.
+    `next` is the index of the next visit and `left` how many visits are left. pair.walk(walk.next, walk.left) goes on from there, with the same
+    shift and flips.
+
+    A walk is opened without a look at its flips. FlipBytes and FlipBit are raised by each step, also where the walk has ended; it stays as it was.
     """
     __slots__ = ('_given', '_next', '_left')
 
-    def __init__(self, pair, start, count, shift):
-        start, count = _whole('start', start), _whole('count', count, high=2**64 - 1)
-        self._given = pair._under(shift)
-        following, left = ctypes.c_uint32(), ctypes.c_uint64()
-        _accept(_library.vektrid_walk_open(start, count, following, left), start=start, count=count)
-        self._next, self._left = following.value, left.value
+    def __init__(self, pair, start, count, shift, flips=None):
+        self._given = pair._under(shift, flips)
+        self._next, self._left = _open(start, count)
 
     @property
     def next(self):
@@ -688,7 +757,7 @@ class Walk:
         """Moves on; gives the index and both coordinates, or None where the walk has ended."""
         following, left = ctypes.c_uint32(self._next), ctypes.c_uint64(self._left)
         given, index, x, y = ctypes.c_uint32(), ctypes.c_uint32(), kind(), kind()
-        _accept(call(*self._given, following, left, given, index, x, y), count=self._given[1])
+        _accept_under(call(*self._given, following, left, given, index, x, y), self._given, count=self._given[1])
         self._next, self._left = following.value, left.value
         return (index.value, x.value, y.value) if given.value else None
 
@@ -726,11 +795,46 @@ class SinglesWalk(Walk):
         return visit
 
 
-def standard_point(index, shift=(0, 0)):
-    """The Point of an index of the standard pair, by the fast way: the same as Pair.standard().point(index, shift). Nothing is refused."""
-    x, y = ctypes.c_uint32(), ctypes.c_uint32()
-    _library.vektrid_standard_point(*_shift(shift), _whole('index', index), x, y)
+def standard_point(index, shift=(0, 0), *, flips=None):
+    """The Point of an index of the standard pair, by the fast way: what Pair.standard().point gives. Refused: FlipBytes, FlipBit."""
+    under, x, y = _shift(shift) + _flips(flips), ctypes.c_uint32(), ctypes.c_uint32()
+    _accept_under(_library.vektrid_standard_point(*under, _whole('index', index), x, y), under)
     return Point(x.value, y.value)
+
+
+# ---- random scrambles
+
+
+def _splitmix64(state):
+    """An iterator over the numbers of SplitMix64, of 64 bits each, whose state begins as given."""
+    while True:
+        state = (state + 0x9E3779B97F4A7C15) % 2**64
+        mixed = (state ^ state >> 30) * 0xBF58476D1CE4E5B9 % 2**64
+        mixed = (mixed ^ mixed >> 27) * 0x94D049BB133111EB % 2**64
+        yield mixed ^ mixed >> 31
+
+
+def random_scramble(seed):
+    """The scramble of a seed, 0 to 2^64 - 1: a dict with `shift` and `flips`, to be handed on as they are, by two asterisks. Nothing is refused.
+
+    The same seed gives the same scramble, here and in every later version: it is made of the first nine numbers of SplitMix64, whose state
+    begins as the seed. Each number is made so, modulo 2^64: 0x9E3779B97F4A7C15 is added to the state, and with z the state,
+    z = (z ^ (z >> 30)) * 0xBF58476D1CE4E5B9, z = (z ^ (z >> 27)) * 0x94D049BB133111EB, and the number is z ^ (z >> 31). The low 32 bits of the
+    first are the shift of x and its high 32 bits that of y. The second to the fifth are the flips of x, 8 bytes each, the lowest first; the sixth
+    to the ninth those of y. Flip bit 255 of each axis is then cleared.
+
+    >>> import vektrid
+    >>> scramble = vektrid.random_scramble(7)
+    >>> scramble['shift']
+    (1496452567, 1674306020)
+    >>> vektrid.standard_point(5, **scramble)
+    Point(x=3207728599, y=3368804836)
+    """
+    numbers = list(itertools.islice(_splitmix64(_whole('seed', seed, high=2**64 - 1)), 9))
+    flips = bytearray(struct.pack('<8Q', *numbers[1:]))
+    for last in (31, 63):
+        flips[last] %= 128
+    return dict(shift=(numbers[0] % 2**32, numbers[0] >> 32), flips=(bytes(flips[:32]), bytes(flips[32:])))
 
 
 # ---- counts that stop anywhere
@@ -744,7 +848,7 @@ def _ceiling(n, d):
 def count_bounds(n, m, *, start=None):
     """How many of n consecutive visits a cell of a shape (m, a) holds: the least and the most. Gives a CountBounds (least, most).
 
-    They hold for every a, in every cell, under every shift, for every pair that passes a level of m or more, wherever the visits begin: at least
+    They hold for every a, in every cell, under every scramble, for every pair that passes a level of m or more, wherever the visits begin: at least
     floor((n + 1) / 2^m) - 1, or 0 where that is below 0, and at most ceil((n - 1) / 2^m) + 1. Both are proved (docs/COUNTS.md).
 
     `start`, the index of the first visit, narrows them: at least one for each block of 2^m visits that lies among the n, and at most one for each
@@ -847,7 +951,7 @@ def judge(file):
     Refused: FileLength, Level, ReservedBytes, then at each link of the chain MissingRecord, ChainReturns, RegionLimits, Field, VisitCount; each
     with `holder` and `named`, the link at which the judgement stopped.
     """
-    file = _content(file)
+    file = _bytes('file', file)
     _accept_file(_library.vektrid_judge(file, len(file)), file)
 
 
@@ -856,7 +960,7 @@ def visits(file):
 
     Positions are for the field that record 0 of the file holds. The file is judged at once. Refused: as judge says.
     """
-    file, walk = _content(file), _FileWalk()
+    file, walk = _bytes('file', file), _FileWalk()
     _accept_file(_library.vektrid_file_walk_open(file, len(file), walk), file)
     return _visits_from(file, walk)
 
@@ -920,7 +1024,7 @@ def sheet_pages(file):
     ..
                               1
     """
-    file = _content(file)
+    file = _bytes('file', file)
     judge(file)
     return _pages_from(sheet_pieces(file))
 
@@ -937,7 +1041,7 @@ def _pages_from(pieces):
 
 def _pieces(start, following, cursor, file, room):
     """An iterator over the pieces of a text, by the calls that start it and give the next piece, and a cursor of its kind."""
-    file, room = _content(file), _whole('room', room, low=LONGEST_LINE)
+    file, room = _bytes('file', file), _whole('room', room, low=LONGEST_LINE)
     start(file, len(file), cursor)
     return _pieces_from(following, file, cursor, room)
 
