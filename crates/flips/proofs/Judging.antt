@@ -1,7 +1,5 @@
 -- A call that loads flips first: where they are refused so is the call, and where they are accepted it goes on with them. Assumes nothing.
 use mathlib.Core.Path.{_≡_, sym, ap, _∙_}
-use mathlib.Core.List.{List}
-use Prim.Native.Nat.{ℕ}
 use Rattle.refusal.specs.Outcome.{Outcome, accepted, first}
 use Rattle.refusal.specs.Refusal.{of-refusal, of-judgement}
 use Rattle.refusal.specs.declared.Refusal.{Refusal}

@@ -1,8 +1,8 @@
 -- One turn of the loops that flip a word and lead back, and what they end with. Assumes nothing.
 use mathlib.Core.Path.{_≡_, refl, sym, ap, ap₂, _∙_}
 use mathlib.Core.List.{List}
-use Prim.Native.Nat.{ℕ, zero, suc, _+_, _-_, _*_, _/_, _%_, _^_, _≤_, _<_}
-use native.Mathlib.Nat.{pow-suc, pow-zero, div-div-eq-div-mul, div-eq-of-lt, pow-le-pow-right}
+use Prim.Native.Nat.{ℕ, suc, _+_, _-_, _*_, _/_, _%_, _^_, _≤_, _<_}
+use native.Mathlib.Nat.{pow-suc, div-div-eq-div-mul, div-eq-of-lt}
 use native.Mathlib.Numerals.{add-one}
 use native.Mathlib.Omega.{arith}
 use lib.Bits.{bitXor}
@@ -14,7 +14,7 @@ use Rattle.net.specs.Sequence.{top}
 use Rattle.net.specs.Scrambling.{nested, adding, unnested, taking}
 use Rattle.net.proofs.Scrambling.{nested-rest, unnested-lt, unnested-rest}
 use Rattle.flips.specs.Flips.{flip-bit, flip-at, flipped, unflipped}
-use Rattle.flips.proofs.Flips.{flip-bit-lt, at, deep, permutes, leads, passes, passes-back, node-lt}
+use Rattle.flips.proofs.Flips.{flip-bit-lt, at, permutes, leads, passes, passes-back, node-lt}
 
 -- the node of the t bits p, in the tree numbered from its root
 abbrev pub Node : ℕ → ℕ → ℕ → Type 0

@@ -1,6 +1,6 @@
 -- A step of a walk with a pair: what is left in the lent words, by whether the call is refused, the walk has ended, or there is a visit.
 -- Assumes nothing.
-use mathlib.Core.Path.{_≡_, sym, ap, ap₂, _∙_}
+use mathlib.Core.Path.{_≡_, sym, ap₂, _∙_}
 use mathlib.Core.List.{List}
 use Prim.Native.Nat.{ℕ}
 use Rattle.ranges.specs.Walk.{Walk, Answer, visited, ended, Stepped}

@@ -14,7 +14,7 @@ use Rattle.net.specs.Generators.{product}
 use Rattle.net.specs.Sequence.{Sequence}
 use Rattle.net.specs.Scrambling.{coordinate}
 use Rattle.net.proofs.Product.{product-lt}
-use Rattle.refusal.specs.Outcome.{Outcome, accepted, refused, Test, first}
+use Rattle.refusal.specs.Outcome.{Outcome, accepted, refused, first}
 use Rattle.refusal.specs.Refusal.{of-refusal, of-judgement}
 use Rattle.refusal.specs.declared.Refusal.{Refusal}
 use Rattle.refusal.specs.declared.Judgement.{Judgement}

@@ -15,8 +15,8 @@ use Rattle.refusal.specs.declared.Judgement.{Judgement}
 use Rattle.refusal.specs.declared.Judgement.the-variants as judgement
 use Rattle.word.specs.Matrices.{pair}
 use Rattle.flips.specs.declared.sets.Flips.{Flips}
-use Rattle.flips.specs.Load.{flips-of, flips-tests, flips-outcome, flips-loaded}
-use Rattle.flips.proofs.Judging.{flips-stop, flips-pass, flips-are}
+use Rattle.flips.specs.Load.{flips-tests, flips-outcome, flips-loaded}
+use Rattle.flips.proofs.Judging.{flips-pass, flips-are}
 use Rattle.plan.specs.declared.points.Shift.{Shift}
 use Rattle.plan.specs.declared.points.Scramble.{Scramble}
 

@@ -1,14 +1,11 @@
 -- The one term for specs/Theorem: the digits of a product, of what the flips add, and of the shift, at base two. Assumes nothing.
-use mathlib.Core.Path.{_≡_, refl, sym, ap, ap₂, _∙_}
+use mathlib.Core.Path.{_≡_, ap, ap₂, _∙_}
 use mathlib.Core.List.{List}
-use Prim.Native.Nat.{ℕ, zero, suc, _+_, _-_, _*_, _/_, _%_, _^_, _≤_, _<_}
-use native.Mathlib.Nat.{div-eq-of-lt}
+use Prim.Native.Nat.{ℕ, zero, suc, _+_, _-_, _*_, _%_, _^_, _≤_, _<_}
 use native.Mathlib.Omega.{arith}
 use native.Mathlib.Decide.{decLt}
 use lib.ListN.{length}
-use Rattle.ranges.specs.Below.{Below}
 use Rattle.digits.specs.Digits.{digit, plus}
-use Rattle.digits.proofs.Digit.{div-suc}
 use Rattle.digits.proofs.Arithmetic.{digit-plus}
 use Rattle.digits.proofs.Two.{one-lt-two}
 use Rattle.linear.specs.Matrix.{sum}

@@ -6,7 +6,6 @@ use native.Mathlib.Nat.{lt-of-lt-of-le}
 use native.Mathlib.Omega.{arith}
 use lib.Bits.{bitXor}
 use lib.Pow.{pow-mono}
-use Rattle.digits.specs.Digits.{plus, minus}
 use Rattle.digits.proofs.Arithmetic.{plus-join, minus-lt}
 use Rattle.digits.proofs.Two.{one-lt-two, plus-two, minus-two}
 use Rattle.net.specs.Sequence.{top, column, row}

@@ -3,9 +3,8 @@
 use mathlib.Core.Path.{_≡_, refl, ap, _∙_}
 use Prim.Native.Nat.{ℕ}
 use borrow.Author.Needs.{needs}
-use Rattle.refusal.specs.Outcome.{Outcome}
 use Rattle.plan.specs.declared.points.Scramble.{Scramble}
-use Rattle.plan.specs.Walk.{of-walk, of-step, step-outcome}
+use Rattle.plan.specs.Walk.{of-step, step-outcome}
 use Rattle.answers.specs.Answers.{StepWords, step-words}
 use Rattle.pair_calls.specs.Calls.{scramble-words, pair-step-outcome}
 use Rattle.pair_calls.proofs.Loading.{stops, gives}

@@ -1,11 +1,8 @@
 -- `steps::step_singles`: the laws of Stepping, by whether the call is refused, the walk has ended, or there is a visit.
 -- Assumes nothing.
 use mathlib.Core.Path.{_≡_, refl, ap, _∙_}
-use Prim.Native.Nat.{ℕ}
 use borrow.Author.Needs.{needs}
-use Rattle.refusal.specs.Outcome.{Outcome}
 use Rattle.plan.specs.declared.points.Scramble.{Scramble}
-use Rattle.plan.specs.Walk.{of-walk}
 use Rattle.unit.specs.declared.pairs.Singles.{Singles}
 use Rattle.unit.specs.Singles.{of-singles-step, singles-step-outcome}
 use Rattle.answers.specs.Answers.{StepWords, step-words}

@@ -1,8 +1,8 @@
 -- `fill_axis`: the shift in the products where there are no flips, and else flips and shift after them.
 use mathlib.Core.Path.{_≡_, ap, _∙_}
 use mathlib.Core.Bool.{false}
-use mathlib.Core.List.{List, map}
-use Prim.Native.Nat.{ℕ, _+_, _^_}
+use mathlib.Core.List.{map}
+use Prim.Native.Nat.{_+_, _^_}
 use borrow.Author.Needs.{needs}
 use borrow.Author.Tests.{le-ltb}
 use lib.ListN.{length, getD}

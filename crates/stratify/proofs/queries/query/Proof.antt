@@ -12,7 +12,7 @@ use Rattle.refusal.specs.Refusal.{of-judgement}
 use Rattle.refusal.proofs.First.{refused-before, passed-before, granted-accepted}
 use Rattle.flips.specs.declared.sets.Flips.{Flips}
 use Rattle.flips.specs.Load.{flips-of}
-use Rattle.plan.specs.Pair.{generators, scrambling, scramble-of}
+use Rattle.plan.specs.Pair.{generators, scrambling}
 use Rattle.plan.proofs.Laws.{words-valid}
 use Rattle.stratify.specs.Answers.{of-location, query-tests}
 use Rattle.stratify.proofs.Outcomes.{flips-of-tests, cell-of}

@@ -2,8 +2,7 @@
 use mathlib.Core.Path.{_≡_, refl, sym, ap, _∙_}
 use Prim.Native.Nat.{ℕ}
 use borrow.Author.Needs.{needs}
-use Rattle.ranges.specs.Walk.{Answer, visited, Stepped}
-use Rattle.net.specs.Run.{Visit}
+use Rattle.ranges.specs.Walk.{Answer, visited}
 use Rattle.refusal.specs.Outcome.{Outcome, accepted}
 use Rattle.plan.specs.declared.walks.Step.{Step}
 use Rattle.plan.specs.declared.points.Scramble.{Scramble}

@@ -1,11 +1,11 @@
 -- `Walk::step`: refused where the flips are, and else the tests of the step of ranges, in its order.
-use mathlib.Core.Path.{_≡_, refl, ap}
+use mathlib.Core.Path.{_≡_}
 use native.Mathlib.Omega.{arith}
 use borrow.Author.Tests.{eq-eqb, ne-eqb, le-ltb}
 use borrow.Author.Needs.{needs}
 use Rattle.ranges.specs.Walk.{Stepped, step}
 use Rattle.net.specs.Run.{Visit, visit}
-use Rattle.refusal.specs.Outcome.{Outcome, accepted}
+use Rattle.refusal.specs.Outcome.{accepted}
 use Rattle.word.specs.Index.{last-index}
 use Rattle.flips.specs.declared.sets.Flips.{Flips}
 use Rattle.flips.specs.Load.{flips-of}
