@@ -50,10 +50,15 @@ void add_queries(Race& race, const char* name, const std::vector<Pair>& pairs, c
     });
 }
 
-void measure_queries(Report& report, const std::vector<Pair>& pairs, uint32_t m, Row row) {
+std::vector<Query> fitting_queries(uint32_t m) {
     std::mt19937 random(m);
     std::vector<Query> queries;
     for (int i = 0; i < 1024; ++i) queries.push_back(fitting_query(random, m, m / 2));
+    return queries;
+}
+
+void measure_queries(Report& report, const std::vector<Pair>& pairs, uint32_t m, Row row) {
+    const std::vector<Query> queries = fitting_queries(m);
     Race race;
     add_queries(race, "ours", pairs, queries, our_query);
     add_queries(race, "theirs", pairs, queries, cpp_query);
@@ -61,10 +66,30 @@ void measure_queries(Report& report, const std::vector<Pair>& pairs, uint32_t m,
     report.row(std::move(row), static_cast<double>(queries.size()) / 1e3, race, "ours", "theirs");
 }
 
+void measure_flips(Report& report, const std::vector<Pair>& pairs) {
+    const Flips flips = random_flips(16);
+    const std::vector<Query> queries = fitting_queries(16);
+    Race race;
+    add_queries(race, "plain", pairs, queries, our_query);
+    add_queries(race, "flips", pairs, queries, [&](const Pair& pair, const Query& query) { return our_query_under(flips, pair, query); });
+    race.run(2, 10);
+    const Row row{"query16_flips_vs_plain", "query, m = 16, a = 8, random flips / ours without flips", "kqueries/s"};
+    report.row(row, static_cast<double>(queries.size()) / 1e3, race, "flips", "plain");
+}
+
+// A query under flips: refused as the plain one, or its index has its point in the cell.
+bool right_under(const Flips& flips, const Pair& pair, const Query& query) {
+    const Answer ours = our_query_under(flips, pair, query), plain = cpp_query(pair, query);
+    const uint32_t refusal = refusal_under(flips, plain.refusal);
+    if (refusal != plain.refusal) return ours == Answer{refusal};
+    if (refusal != 0) return ours == plain;
+    return ours == Answer{0, 0, 0, 0, ours.index} && lies_in_cell(flips, pair, query, ours.index);
+}
+
 }  // namespace
 
 void compare_cells(Report& report) {
-    std::mt19937 random(11);
+    std::mt19937 random(11), flipping(16);
     for (int i = 0; i < 800; ++i) {
         const Pair pair = any_pair(random);
         const uint32_t level = i % 2 == 0 ? 32 : static_cast<uint32_t>(random()) % 34;
@@ -75,6 +100,7 @@ void compare_cells(Report& report) {
         for (int k = 0; k < 16; ++k) {
             const Query query = any_query(random);
             report.compare(our_query(pair, query) == cpp_query(pair, query), "query " + std::to_string(k) + " " + name);
+            report.compare(right_under(any_query_flips(flipping), pair, query), "query " + std::to_string(k) + " under flips " + name);
         }
     }
     for (const Pair& pair : passing_pairs()) report.compare(our_check(pair, 32) == Answer{}, "a scrambled standard pair passes level 32");
@@ -85,4 +111,5 @@ void measure_cells(Report& report) {
     measure_checks(report, pairs);
     measure_queries(report, pairs, 32, {"query32_vs_cpp", "query, m = 32, a = 16 / C++ basis", "kqueries/s", 1});
     measure_queries(report, pairs, 16, {"query16_vs_cpp", "query, m = 16, a = 8 / C++ basis", "kqueries/s", 0.95});
+    measure_flips(report, pairs);
 }

@@ -17,18 +17,20 @@ struct Size {
     std::function<void()> once;
 };
 
-Size fill_size(const Pair& pair, std::vector<uint32_t>& words, int log) {
+Size fill_size(const char* name, const Pair& pair, const Flips& flips, std::vector<uint32_t>& words, int log) {
     const size_t n = size_t{1} << log;
     uint32_t* const xs = words.data();
     uint32_t* const ys = xs + n;
-    return {"fill, any pair", "2^" + std::to_string(log) + " points", log < 16 ? 1 << (16 - log) : 1,
-            [=, &pair] { vektrid_fill(pair.data(), 64, kShift.x, kShift.y, 0, xs, n, ys, n), keep(xs); }};
+    return {name, "2^" + std::to_string(log) + " points", log < 16 ? 1 << (16 - log) : 1, [=, &pair, &flips] {
+                vektrid_fill(pair.data(), 64, kShift.x, kShift.y, flips.x.data(), flips.x.size(), flips.y.data(), flips.y.size(), 0, xs, n, ys, n);
+                keep(xs);
+            }};
 }
 
 Size query_size(const Pair& pair, uint32_t m) {
     return {"query", "m = " + std::to_string(m), 256, [=, &pair] {
                 uint32_t index = 0, j = 0;
-                vektrid_query(pair.data(), 64, kShift.x, kShift.y, 32, m, m / 2, 0, 0, 0, &index, &j);
+                vektrid_query(pair.data(), 64, kShift.x, kShift.y, vektrid_no_flips, 32, vektrid_no_flips, 32, 32, m, m / 2, 0, 0, 0, &index, &j);
                 keep(&index);
             }};
 }
@@ -39,8 +41,8 @@ Size overview_size(const Pair& pair, const Overview& of, std::vector<uint32_t>& 
     return {"overview, m = 12", std::to_string(n) + (n == 1 ? " cell" : " cells"), n < 256 ? 256 : static_cast<int>(65536 / n),
             [=, &pair, &of] {
                 uint32_t j = 0;
-                vektrid_overview(pair.data(), 64, of.shift.x, of.shift.y, of.level, of.m, of.a, of.block, of.columns.data(), n,
-                                 of.rows.data(), n, answers, n, &j);
+                vektrid_overview(pair.data(), 64, of.shift.x, of.shift.y, vektrid_no_flips, 32, vektrid_no_flips, 32, of.level, of.m, of.a,
+                                 of.block, of.columns.data(), n, of.rows.data(), n, answers, n, &j);
                 keep(answers);
             }};
 }
@@ -57,10 +59,12 @@ Size check_size(const Pair& pair, uint32_t level) {
 
 void measure_growth(Report& report) {
     const Pair pair = scrambled_pair(1);
+    const Flips flips = random_flips(16);
     std::vector<uint32_t> words(size_t{2} << 22);
     const Overview of = squares(65536);
     std::vector<Size> sizes;
-    for (const int log : {0, 4, 8, 12, 16, 20, 22}) sizes.push_back(fill_size(pair, words, log));
+    for (const int log : {0, 4, 8, 12, 16, 20, 22}) sizes.push_back(fill_size("fill, any pair", pair, kNoFlips, words, log));
+    for (const int log : {0, 8, 12, 16, 20}) sizes.push_back(fill_size("fill, any pair, random flips", pair, flips, words, log));
     for (const uint32_t m : {0, 4, 8, 16, 24, 32}) sizes.push_back(query_size(pair, m));
     for (const size_t n : {0, 1, 16, 256, 4096, 65536}) sizes.push_back(overview_size(pair, of, words, n));
     for (const uint32_t level : {1, 4, 8, 16, 24, 32}) sizes.push_back(check_size(pair, level));

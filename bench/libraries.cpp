@@ -31,7 +31,8 @@ struct Ours {
     bool filled;
     Ours() {
         const Pair pair = standard_pair();
-        filled = vektrid_fill(pair.data(), 64, 0, 0, 0, xs.data(), xs.size(), ys.data(), ys.size()) == 0;
+        filled = vektrid_fill(pair.data(), 64, 0, 0, vektrid_no_flips, 32, vektrid_no_flips, 32, 0, xs.data(), xs.size(), ys.data(),
+                              ys.size()) == 0;
     }
     uint32_t x(size_t k) const { return xs[k ^ (k >> 1)]; }
     uint32_t y(size_t k) const { return ys[k ^ (k >> 1)]; }

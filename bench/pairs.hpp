@@ -1,4 +1,4 @@
-// Matrix pairs and indexes for the benchmark, from fixed seeds.
+// Matrix pairs, indexes and flips for the benchmark, from fixed seeds.
 #pragma once
 
 #include <array>
@@ -61,3 +61,46 @@ struct Shift {
 };
 constexpr Shift kNoShift{0, 0};
 constexpr Shift kShift{0x9E3779B9u, 0x7F4A7C15u};
+
+// The flip bits of an axis (C-16). Bit 255 belongs to no bit of a coordinate, and the library refuses it.
+using AxisFlips = std::array<uint8_t, 32>;
+
+struct Flips {
+    AxisFlips x, y;
+};
+constexpr Flips kNoFlips{};
+
+inline bool flip_bit(const AxisFlips& flips, uint32_t n) { return flips[n / 8] >> (n % 8) & 1; }
+
+inline AxisFlips random_axis_flips(std::mt19937& random) {
+    AxisFlips flips;
+    for (uint8_t& byte : flips) byte = static_cast<uint8_t>(random());
+    flips[31] &= 0x7F;
+    return flips;
+}
+
+// Each bit of both axes at random.
+inline Flips random_flips(uint32_t seed) {
+    std::mt19937 random(seed);
+    const AxisFlips x = random_axis_flips(random), y = random_axis_flips(random);
+    return {x, y};
+}
+
+// Flip bit n of one axis alone.
+inline Flips single_flip(bool on_y, uint32_t n) {
+    Flips flips{};
+    (on_y ? flips.y : flips.x)[n / 8] = static_cast<uint8_t>(1u << (n % 8));
+    return flips;
+}
+
+// Any flips: of both axes, of one, or a single bit, so that an axis without flips stands beside one with them.
+inline Flips any_flips(std::mt19937& random) {
+    Flips flips = random_flips(static_cast<uint32_t>(random()));
+    switch (random() % 6) {
+    case 0: flips.x = {}; break;
+    case 1: flips.y = {}; break;
+    case 2: flips = single_flip(random() % 2 == 0, random() % 255); break;
+    default: break;
+    }
+    return flips;
+}

@@ -55,6 +55,20 @@ inline uint32_t pascal(uint32_t v) {
     return v;
 }
 
+// prefix[t] is the exclusive or of columns 0 to t: what a coordinate gains on the way from an index with t trailing ones to the next.
+struct Prefixes {
+    uint32_t x[33] = {}, y[33] = {};  // nothing comes after the last index, with 32 trailing ones
+    explicit Prefixes(const Pair& pair) {
+        uint32_t sum_x = 0, sum_y = 0;
+        for (int t = 0; t < 32; ++t) {
+            x[t] = sum_x ^= pair.x()[t];
+            y[t] = sum_y ^= pair.y()[t];
+        }
+    }
+};
+
+inline int trailing_ones(uint32_t index) { return __builtin_ctzll(~static_cast<uint64_t>(index)); }
+
 // One call for each way to fill two buffers of n words with the points from `start` on.
 struct Target {
     uint32_t* xs;

@@ -1,4 +1,4 @@
-// Our query, and the pairs, queries and overviews that are asked for, from fixed seeds.
+// Our query, what its answer under flips must be, and the pairs, queries and overviews that are asked for, from fixed seeds.
 #pragma once
 
 #include <cstddef>
@@ -8,15 +8,39 @@
 
 #include "../include/vektrid.h"
 #include "cell_peers.hpp"
+#include "flip_peers.hpp"
 
 // What stands where a call may write, so that it shows whether it did.
 constexpr uint32_t kUntouched = 0xDEADBEEF;
 
-inline Answer our_query(const Pair& pair, const Query& q) {
+inline Answer our_query_under(const Flips& flips, const Pair& pair, const Query& q) {
     uint32_t index = 0, j = 0;
-    const uint32_t refusal =
-        vektrid_query(pair.data(), 64, q.shift.x, q.shift.y, q.level, q.m, q.a, q.column, q.row, q.block, &index, &j);
+    const uint32_t refusal = vektrid_query(pair.data(), 64, q.shift.x, q.shift.y, flips.x.data(), flips.x.size(), flips.y.data(),
+                                           flips.y.size(), q.level, q.m, q.a, q.column, q.row, q.block, &index, &j);
     return {refusal, refusal == 3 ? q.m : 0, refusal == 3 ? q.a : 0, j, index};
+}
+
+inline Answer our_query(const Pair& pair, const Query& query) { return our_query_under(kNoFlips, pair, query); }
+
+// Whether an index answers a query that is not refused: it lies in the block, and its point, by the definition of flips, in the cell. Of a
+// shape that is a net there is only one such index.
+inline bool lies_in_cell(const Flips& flips, const Pair& pair, const Query& q, uint32_t index) {
+    const Point point = defined_point(pair, q.shift, flips, index);
+    const uint32_t wanted = static_cast<uint32_t>(uint64_t{q.column} << (q.m - q.a) | q.row);
+    return uint64_t{index} >> q.m == q.block && cell(point.x, point.y, q.m, q.a) == wanted;
+}
+
+// The refusal under flips, from that without them: flip bit 255 is refused after 8 and 2, and all the others are as they were.
+inline uint32_t refusal_under(const Flips& flips, uint32_t plain) {
+    if (plain == 8 || plain == 2) return plain;
+    return flip_bit(flips.x, 255) || flip_bit(flips.y, 255) ? 18 : plain;
+}
+
+// Any flips, now and then with the bit that is refused.
+inline Flips any_query_flips(std::mt19937& random) {
+    Flips flips = any_flips(random);
+    if (random() % 24 == 0) (random() % 2 == 0 ? flips.x : flips.y)[31] |= 0x80;
+    return flips;
 }
 
 inline uint32_t below_power(uint32_t word, uint32_t bits) { return static_cast<uint32_t>(word & ((uint64_t{1} << bits) - 1)); }

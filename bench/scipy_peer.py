@@ -27,9 +27,11 @@ def fill_call(library, pair, xs, ys):
     """A function of no arguments that fills xs and ys with the points of a pair from index 0 on."""
     call = library.vektrid_fill
     word, size, words = ctypes.c_uint32, ctypes.c_size_t, ctypes.POINTER(ctypes.c_uint32)
-    call.argtypes = [words, size, word, word, word, words, size, words, size]
+    flips = [ctypes.c_char_p, size]
+    no_flips = bytes(32)
+    call.argtypes = [words, size, word, word, *flips, *flips, word, words, size, words, size]
     call.restype = word
-    arguments = (pointer(pair), len(pair), 0, 0, 0, pointer(xs), len(xs), pointer(ys), len(ys))
+    arguments = (pointer(pair), len(pair), 0, 0, no_flips, 32, no_flips, 32, 0, pointer(xs), len(xs), pointer(ys), len(ys))
     return lambda: call(*arguments)
 
 

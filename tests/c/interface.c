@@ -1,7 +1,7 @@
 /* Tests of every call of include/vektrid.h: each refusal under its number, what a refused call leaves as it was, and the known points, the
  * example listing and the sheet of the requirements. C99, C11 and C++17 compile it; tests/c/run does, and runs it.
  *
- * What is expected comes from the requirements: their examples, or their definitions written out again here (column_of, point_of).
+ * What is expected comes from the requirements: their examples, or their definitions written out again here (column_of, flipped, x_of).
  */
 #include <stdio.h>
 #include <string.h>
@@ -13,7 +13,7 @@
 #define BYTE_KEPT 0xA5u
 
 static unsigned checks, failures;
-static unsigned refused[17]; /* how often each refusal was given where it is due */
+static unsigned refused[19]; /* how often each refusal was given where it is due */
 
 static int check(int holds, const char *claim, const char *file, int line) {
     checks++;
@@ -51,16 +51,109 @@ static void make_pairs(void) {
     }
 }
 
-/* The exclusive or of the columns whose index bit is set, and of the shift. */
-static uint32_t point_of(const uint32_t *columns, uint32_t shift, uint32_t index) {
+/* The exclusive or of the columns whose index bit is set. */
+static uint32_t product_of(const uint32_t *columns, uint32_t index) {
+    uint32_t word = 0;
     for (int bit = 0; bit < 32; bit++)
         if (index >> bit & 1u)
-            shift ^= columns[bit];
-    return shift;
+            word ^= columns[bit];
+    return word;
 }
 
 /* The top bits of a word; none of the bits means 0. */
 static uint32_t top(uint32_t word, uint32_t bits) { return bits == 0 ? 0 : word >> (32 - bits); }
+
+/* Flip bit n, numbered from the lowest bit of byte 0. */
+static uint32_t flip_bit(const uint8_t *flips, uint32_t n) { return (uint32_t)flips[n / 8] >> n % 8 & 1u; }
+
+/* Bit t from the top, t from 0 to 7, is flipped where flip bit 2^t - 1 + p is set, p being the t leading bits before any flip. */
+static uint32_t flipped(uint32_t product, const uint8_t *flips) {
+    uint32_t word = product;
+    for (uint32_t t = 0; t < 8; t++)
+        word ^= flip_bit(flips, (1u << t) - 1 + top(product, t)) << (31 - t);
+    return word;
+}
+
+/* A scramble as the calls take it, and the coordinates of a visit under it: the product, its flips, and then the shift. */
+struct scramble {
+    uint32_t shift_x, shift_y;
+    uint8_t flips_x[32], flips_y[32];
+};
+
+#define SCRAMBLE(by) (by)->shift_x, (by)->shift_y, (by)->flips_x, 32, (by)->flips_y, 32
+#define NO_FLIPS vektrid_no_flips, 32, vektrid_no_flips, 32
+
+static uint32_t x_of(const uint32_t *pair, const struct scramble *by, uint32_t index) {
+    return flipped(product_of(pair, index), by->flips_x) ^ by->shift_x;
+}
+
+static uint32_t y_of(const uint32_t *pair, const struct scramble *by, uint32_t index) {
+    return flipped(product_of(pair + 32, index), by->flips_y) ^ by->shift_y;
+}
+
+/* Numbers that look random: the next one after this. */
+static uint32_t next_word(uint32_t word) { return word * 1664525u + 1013904223u; }
+
+/* Any bytes, but for flip bit 255. */
+static void put_any_flips(uint8_t *flips, uint32_t *word) {
+    for (int i = 0; i < 32; i++) {
+        *word = next_word(*word);
+        flips[i] = (uint8_t)(*word >> 24);
+    }
+    flips[31] &= 0x7F;
+}
+
+/* Nothing; shifts; flips of x alone, of y alone, and all that may be set; flips with a shift. */
+enum { NOTHING, SHIFTED, FAR, X_FLIPPED, Y_FLIPPED, ALL_FLIPPED, FLIPPED, SCRAMBLED, SCRAMBLES };
+
+static struct scramble scrambles[SCRAMBLES];
+
+static void make_scrambles(struct scramble *made) {
+    uint32_t word = 1;
+    memset(made, 0, SCRAMBLES * sizeof made[0]);
+    made[SHIFTED].shift_x = made[SCRAMBLED].shift_x = 0x12345678u;
+    made[SHIFTED].shift_y = made[SCRAMBLED].shift_y = 0x9ABCDEF0u;
+    made[FAR].shift_x = LAST;
+    made[FAR].shift_y = 1;
+    put_any_flips(made[X_FLIPPED].flips_x, &word);
+    put_any_flips(made[Y_FLIPPED].flips_y, &word);
+    memset(made[ALL_FLIPPED].flips_x, 0xFF, 32);
+    made[ALL_FLIPPED].flips_x[31] = 0x7F;
+    memcpy(made[ALL_FLIPPED].flips_y, made[ALL_FLIPPED].flips_x, 32);
+    for (int i = FLIPPED; i <= SCRAMBLED; i++) {
+        put_any_flips(made[i].flips_x, &word);
+        put_any_flips(made[i].flips_y, &word);
+    }
+}
+
+/* Flips that are refused: other numbers of bytes for one axis and for both, some with flip bit 255 set where it can be, so that 18 is due too;
+ * and flip bit 255 of one axis and of both. */
+static uint8_t zero_bytes[64], set_bytes[64], bit_255[32];
+
+static const struct {
+    uint32_t number;
+    const uint8_t *x;
+    size_t x_count;
+    const uint8_t *y;
+    size_t y_count;
+} bad_flips[] = {
+    {17, zero_bytes, 0, zero_bytes, 32},  {17, zero_bytes, 31, zero_bytes, 32}, {17, zero_bytes, 33, zero_bytes, 32},
+    {17, zero_bytes, 64, zero_bytes, 32}, {17, zero_bytes, 32, zero_bytes, 0},  {17, zero_bytes, 32, zero_bytes, 31},
+    {17, zero_bytes, 32, zero_bytes, 33}, {17, zero_bytes, 32, zero_bytes, 64}, {17, zero_bytes, 0, zero_bytes, 0},
+    {17, zero_bytes, 31, zero_bytes, 33}, {17, zero_bytes, 64, zero_bytes, 0},  {17, bit_255, 32, zero_bytes, 31},
+    {17, bit_255, 32, zero_bytes, 33},    {17, zero_bytes, 0, bit_255, 32},     {17, set_bytes, 33, bit_255, 32},
+    {17, set_bytes, 64, set_bytes, 64},   {18, bit_255, 32, zero_bytes, 32},    {18, zero_bytes, 32, bit_255, 32},
+    {18, bit_255, 32, bit_255, 32},       {18, set_bytes, 32, zero_bytes, 32},  {18, zero_bytes, 32, set_bytes, 32},
+};
+
+enum { BAD_FLIPS = sizeof bad_flips / sizeof bad_flips[0] };
+
+#define BAD(i) bad_flips[i].x, bad_flips[i].x_count, bad_flips[i].y, bad_flips[i].y_count
+
+static void make_bad_flips(void) {
+    memset(set_bytes, 0xFF, sizeof set_bytes);
+    bit_255[31] = 0x80;
+}
 
 static uint32_t bits_of(float number) {
     uint32_t bits;
@@ -136,25 +229,89 @@ static void known_points(void) {
                                          {5, 0xA0000000u, 0x20000000u}};
     for (int i = 0; i < 5; i++) {
         uint32_t x = KEPT, y = KEPT;
-        CHECK(vektrid_point(standard, 64, 0, 0, known[i][0], &x, &y) == 0);
+        CHECK(vektrid_point(standard, 64, 0, 0, NO_FLIPS, known[i][0], &x, &y) == 0);
         CHECK(x == known[i][1] && y == known[i][2]);
         x = y = KEPT;
-        vektrid_standard_point(0, 0, known[i][0], &x, &y);
+        CHECK(vektrid_standard_point(0, 0, NO_FLIPS, known[i][0], &x, &y) == 0);
         CHECK(x == known[i][1] && y == known[i][2]);
     }
 }
 
+/* In x the second bit is flipped behind a 1; in y it is flipped behind a 0, and the third bit behind 11. The shift turns the first bit of x, and
+ * the product's own bit counts. */
+static void known_points_under_flips(void) {
+    static const uint32_t known[4][2] = {
+        {0x80000001u, 0x40000010u}, {0x40000001u, 0x80000010u}, {0xC0000001u, 0xE0000010u}, {0x00000001u, 0x00000010u}};
+    struct scramble by = {0x80000001u, 0x00000010u, {1 << 2}, {1 << 1 | 1 << 6}};
+    for (uint32_t index = 0; index < 4; index++) {
+        uint32_t x = KEPT, y = KEPT;
+        CHECK(vektrid_point(standard, 64, SCRAMBLE(&by), index, &x, &y) == 0);
+        CHECK(x == known[index][0] && y == known[index][1]);
+        x = y = KEPT;
+        CHECK(vektrid_standard_point(SCRAMBLE(&by), index, &x, &y) == 0);
+        CHECK(x == known[index][0] && y == known[index][1]);
+    }
+}
+
+/* The point of an index by every call that gives it; a pair that is no net has points all the same. */
+static void point(const struct scramble *by, uint32_t index) {
+    uint32_t x = KEPT, y = KEPT;
+    float x_single = 7.0f, y_single = 7.0f;
+    CHECK(vektrid_point(standard, 64, SCRAMBLE(by), index, &x, &y) == 0);
+    CHECK(x == x_of(standard, by, index) && y == y_of(standard, by, index));
+    CHECK(vektrid_point_singles(standard, 64, SCRAMBLE(by), index, &x_single, &y_single) == 0);
+    CHECK(bits_of(x_single) == bits_of(vektrid_single(x)) && bits_of(y_single) == bits_of(vektrid_single(y)));
+    x = y = KEPT;
+    CHECK(vektrid_standard_point(SCRAMBLE(by), index, &x, &y) == 0);
+    CHECK(x == x_of(standard, by, index) && y == y_of(standard, by, index));
+    CHECK(vektrid_point(identities, 64, SCRAMBLE(by), index, &x, &y) == 0);
+    CHECK(x == x_of(identities, by, index) && y == y_of(identities, by, index));
+}
+
 static void points(void) {
-    uint32_t index = 0;
-    for (int i = 0; i < 200; i++) {
-        uint32_t x, y, shift_x = index * 5, shift_y = ~index;
-        CHECK(vektrid_point(standard, 64, shift_x, shift_y, index, &x, &y) == 0);
-        CHECK(x == point_of(standard, shift_x, index) && y == point_of(standard + 32, shift_y, index));
-        vektrid_standard_point(shift_x, shift_y, index, &x, &y);
-        CHECK(x == point_of(standard, shift_x, index) && y == point_of(standard + 32, shift_y, index));
-        CHECK(vektrid_point(identities, 64, 0, shift_y, index, &x, &y) == 0); /* no net, and points all the same */
-        CHECK(x == point_of(identities, 0, index) && y == point_of(identities, shift_y, index));
-        index = index * 1664525u + 1013904223u;
+    uint32_t index = 0, word = 7;
+    for (int i = 0; i < 200; i++, index = next_word(index)) {
+        struct scramble by = {index * 5, ~index, {0}, {0}};
+        point(&by, index);
+        put_any_flips(by.flips_x, &word);
+        put_any_flips(by.flips_y, &word);
+        point(&by, index);
+        for (int s = 0; s < SCRAMBLES; s++)
+            point(&scrambles[s], index);
+    }
+}
+
+/* Flip bit 2^t - 1 + p alone turns bit t of the coordinates that begin with p, and no other. The products of the first 256 indexes begin with
+ * all 256 words of eight bits. */
+static void single_flip_bit(uint32_t t, uint32_t p) {
+    struct scramble by = {0, 0, {0}, {0}};
+    uint32_t n = (1u << t) - 1 + p;
+    by.flips_x[n / 8] = by.flips_y[n / 8] = (uint8_t)(1u << n % 8);
+    for (uint32_t index = 0; index < 256; index++) {
+        uint32_t x = KEPT, y = KEPT, plain_x = product_of(standard, index), plain_y = product_of(standard + 32, index);
+        CHECK(vektrid_standard_point(SCRAMBLE(&by), index, &x, &y) == 0);
+        CHECK((x ^ plain_x) == (top(plain_x, t) == p ? 1u << (31 - t) : 0));
+        CHECK((y ^ plain_y) == (top(plain_y, t) == p ? 1u << (31 - t) : 0));
+    }
+}
+
+static void single_flip_bits(void) {
+    for (uint32_t t = 0; t < 8; t++)
+        for (uint32_t p = 0; p < 1u << t; p++)
+            single_flip_bit(t, p);
+}
+
+/* Bytes need no alignment, and one buffer may serve both axes. */
+static void flips_anywhere(void) {
+    for (size_t place = 0; place < 16; place++) {
+        uint8_t bytes[48];
+        uint32_t x = KEPT, y = KEPT;
+        struct scramble by = scrambles[FLIPPED];
+        memcpy(by.flips_y, by.flips_x, 32);
+        memset(bytes, 0xFF, sizeof bytes);
+        memcpy(bytes + place, by.flips_x, 32);
+        CHECK(vektrid_point(standard, 64, 0, 0, bytes + place, 32, bytes + place, 32, 77, &x, &y) == 0);
+        CHECK(x == x_of(standard, &by, 77) && y == y_of(standard, &by, 77));
     }
 }
 
@@ -162,23 +319,44 @@ static void refused_points(void) {
     uint32_t out[2];
     float singles[2] = {7.0f, 7.0f};
     keep(out, 2);
-    REFUSES(1, vektrid_point(standard, 63, 0, 0, 1, &out[0], &out[1]));
-    REFUSES(1, vektrid_point(standard, 0, 0, 0, 1, &out[0], &out[1]));
+    REFUSES(1, vektrid_point(standard, 63, 0, 0, NO_FLIPS, 1, &out[0], &out[1]));
+    REFUSES(1, vektrid_point(standard, 0, 0, 0, NO_FLIPS, 1, &out[0], &out[1]));
     CHECK(all_kept(out, 2));
-    REFUSES(1, vektrid_point_singles(standard, 63, 0, 0, 1, &singles[0], &singles[1]));
+    REFUSES(1, vektrid_point_singles(standard, 63, 0, 0, NO_FLIPS, 1, &singles[0], &singles[1]));
     CHECK(bits_of(singles[0]) == bits_of(7.0f) && bits_of(singles[1]) == bits_of(7.0f));
 }
 
-static void fills(uint32_t start, size_t count) {
+/* 17 and 18, and 1 before them. */
+static void points_with_bad_flips(void) {
+    for (int i = 0; i < BAD_FLIPS; i++) {
+        uint32_t out[2], number = bad_flips[i].number;
+        float singles[2] = {7.0f, 7.0f};
+        keep(out, 2);
+        REFUSES(number, vektrid_point(standard, 64, 0, 0, BAD(i), 1, &out[0], &out[1]));
+        REFUSES(1, vektrid_point(standard, 63, 0, 0, BAD(i), 1, &out[0], &out[1]));
+        REFUSES(number, vektrid_standard_point(0, 0, BAD(i), 1, &out[0], &out[1]));
+        CHECK(all_kept(out, 2));
+        REFUSES(number, vektrid_point_singles(standard, 64, 0, 0, BAD(i), 1, &singles[0], &singles[1]));
+        REFUSES(1, vektrid_point_singles(standard, 65, 0, 0, BAD(i), 1, &singles[0], &singles[1]));
+        CHECK(bits_of(singles[0]) == bits_of(7.0f) && bits_of(singles[1]) == bits_of(7.0f));
+    }
+}
+
+static void fill(const struct scramble *by, uint32_t start, size_t count) {
     uint32_t xs[300], ys[300];
     keep(xs, 300);
     keep(ys, 300);
-    CHECK(vektrid_fill(standard, 64, 0x12345678u, 0x9ABCDEF0u, start, xs, count, ys, count) == 0);
+    CHECK(vektrid_fill(standard, 64, SCRAMBLE(by), start, xs, count, ys, count) == 0);
     for (size_t i = 0; i < count; i++) {
         uint32_t index = start + (uint32_t)i;
-        CHECK(xs[i] == point_of(standard, 0x12345678u, index) && ys[i] == point_of(standard + 32, 0x9ABCDEF0u, index));
+        CHECK(xs[i] == x_of(standard, by, index) && ys[i] == y_of(standard, by, index));
     }
     CHECK(all_kept(xs + count, 300 - count) && all_kept(ys + count, 300 - count));
+}
+
+static void fills(uint32_t start, size_t count) {
+    for (int s = 0; s < SCRAMBLES; s++)
+        fill(&scrambles[s], start, count);
 }
 
 static void all_fills(void) {
@@ -197,12 +375,27 @@ static void refused_fills(void) {
     uint32_t xs[8], ys[8];
     keep(xs, 8);
     keep(ys, 8);
-    REFUSES(8, vektrid_fill(standard, 64, 0, 0, 0, xs, 4, ys, 5));
-    REFUSES(8, vektrid_fill(standard, 64, 0, 0, LAST, xs, 5, ys, 4)); /* and 9 is due too */
-    REFUSES(9, vektrid_fill(standard, 64, 0, 0, LAST, xs, 2, ys, 2));
-    REFUSES(9, vektrid_fill(standard, 64, 0, 0, LAST - 6, xs, 8, ys, 8));
-    REFUSES(1, vektrid_fill(standard, 63, 0, 0, LAST, xs, 4, ys, 5)); /* and 8 and 9 are due too */
+    REFUSES(8, vektrid_fill(standard, 64, 0, 0, NO_FLIPS, 0, xs, 4, ys, 5));
+    REFUSES(8, vektrid_fill(standard, 64, 0, 0, NO_FLIPS, LAST, xs, 5, ys, 4)); /* and 9 is due too */
+    REFUSES(9, vektrid_fill(standard, 64, 0, 0, NO_FLIPS, LAST, xs, 2, ys, 2));
+    REFUSES(9, vektrid_fill(standard, 64, 0, 0, NO_FLIPS, LAST - 6, xs, 8, ys, 8));
+    REFUSES(1, vektrid_fill(standard, 63, 0, 0, NO_FLIPS, LAST, xs, 4, ys, 5)); /* and 8 and 9 are due too */
     CHECK(all_kept(xs, 8) && all_kept(ys, 8));
+}
+
+/* 17 and 18 come before 8 and 9, and 1 before them. */
+static void fills_with_bad_flips(void) {
+    for (int i = 0; i < BAD_FLIPS; i++) {
+        uint32_t xs[8], ys[8], number = bad_flips[i].number;
+        keep(xs, 8);
+        keep(ys, 8);
+        REFUSES(number, vektrid_fill(standard, 64, 0, 0, BAD(i), 0, xs, 8, ys, 8));
+        REFUSES(number, vektrid_fill(standard, 64, 0, 0, BAD(i), 0, xs, 0, ys, 0));
+        REFUSES(number, vektrid_fill(standard, 64, 0, 0, BAD(i), LAST, xs, 8, ys, 8));
+        REFUSES(number, vektrid_fill(standard, 64, 0, 0, BAD(i), LAST, xs, 4, ys, 5));
+        REFUSES(1, vektrid_fill(standard, 63, 0, 0, BAD(i), LAST, xs, 4, ys, 5));
+        CHECK(all_kept(xs, 8) && all_kept(ys, 8));
+    }
 }
 
 /* ---- walks */
@@ -223,29 +416,36 @@ static void opened_walks(void) {
 }
 
 /* A walk of 3 visits and three steps more: the visits in order, and then the end, which changes nothing. */
-static void stepped_walk(void) {
+static void stepped_walk(const struct scramble *by) {
     uint32_t next = 6, given, index = KEPT, x = KEPT, y = KEPT;
     uint64_t left = 3;
     for (uint32_t n = 0; n < 6; n++) {
         given = KEPT;
-        CHECK(vektrid_walk_step(standard, 64, 5, 9, &next, &left, &given, &index, &x, &y) == 0);
+        CHECK(vektrid_walk_step(standard, 64, SCRAMBLE(by), &next, &left, &given, &index, &x, &y) == 0);
         CHECK(given == (n < 3 ? 1u : 0u));
         CHECK(next == (n < 3 ? 7 + n : 9) && left == (n < 3 ? 2 - n : 0));
         uint32_t last = n < 3 ? 6 + n : 8; /* the visit given last, which a step at the end leaves there */
-        CHECK(index == last && x == point_of(standard, 5, last) && y == point_of(standard + 32, 9, last));
+        CHECK(index == last && x == x_of(standard, by, last) && y == y_of(standard, by, last));
     }
 }
 
-static void walk_of_singles(void) {
+static void walk_of_singles(const struct scramble *by) {
     uint32_t next = 6, given, index = KEPT;
     uint64_t left = 2;
     float x = 7.0f, y = 7.0f;
     for (uint32_t n = 0; n < 4; n++) {
-        CHECK(vektrid_walk_step_singles(standard, 64, 5, 9, &next, &left, &given, &index, &x, &y) == 0);
+        CHECK(vektrid_walk_step_singles(standard, 64, SCRAMBLE(by), &next, &left, &given, &index, &x, &y) == 0);
         CHECK(given == (n < 2 ? 1u : 0u) && next == (n < 2 ? 7 + n : 8) && left == (n < 2 ? 1 - n : 0));
         uint32_t last = n < 2 ? 6 + n : 7;
-        CHECK(index == last && bits_of(x) == bits_of(vektrid_single(point_of(standard, 5, last))));
-        CHECK(bits_of(y) == bits_of(vektrid_single(point_of(standard + 32, 9, last))));
+        CHECK(index == last && bits_of(x) == bits_of(vektrid_single(x_of(standard, by, last))));
+        CHECK(bits_of(y) == bits_of(vektrid_single(y_of(standard, by, last))));
+    }
+}
+
+static void walks(void) {
+    for (int s = 0; s < SCRAMBLES; s++) {
+        stepped_walk(&scrambles[s]);
+        walk_of_singles(&scrambles[s]);
     }
 }
 
@@ -253,10 +453,10 @@ static void walk_of_singles(void) {
 static void walk_at_the_last_index(void) {
     uint32_t next = LAST, given = KEPT, index = KEPT, x = KEPT, y = KEPT;
     uint64_t left = 5; /* no walk that was opened has more than 1 left there */
-    CHECK(vektrid_walk_step(standard, 64, 0, 0, &next, &left, &given, &index, &x, &y) == 0);
+    CHECK(vektrid_walk_step(standard, 64, 0, 0, NO_FLIPS, &next, &left, &given, &index, &x, &y) == 0);
     CHECK(given == 1 && index == LAST && next == LAST && left == 0);
-    CHECK(x == point_of(standard, 0, LAST) && y == point_of(standard + 32, 0, LAST));
-    CHECK(vektrid_walk_step(standard, 64, 0, 0, &next, &left, &given, &index, &x, &y) == 0);
+    CHECK(x == product_of(standard, LAST) && y == product_of(standard + 32, LAST));
+    CHECK(vektrid_walk_step(standard, 64, 0, 0, NO_FLIPS, &next, &left, &given, &index, &x, &y) == 0);
     CHECK(given == 0 && next == LAST && left == 0);
 }
 
@@ -265,10 +465,26 @@ static void refused_steps(void) {
     uint64_t left = KEPT;
     float singles[2] = {7.0f, 7.0f};
     keep(out, 5);
-    REFUSES(1, vektrid_walk_step(standard, 65, 0, 0, &out[0], &left, &out[1], &out[2], &out[3], &out[4]));
-    REFUSES(1, vektrid_walk_step_singles(standard, 63, 0, 0, &out[0], &left, &out[1], &out[2], &singles[0], &singles[1]));
+    REFUSES(1, vektrid_walk_step(standard, 65, 0, 0, NO_FLIPS, &out[0], &left, &out[1], &out[2], &out[3], &out[4]));
+    REFUSES(1, vektrid_walk_step_singles(standard, 63, 0, 0, NO_FLIPS, &out[0], &left, &out[1], &out[2], &singles[0], &singles[1]));
     CHECK(all_kept(out, 5) && left == KEPT);
     CHECK(bits_of(singles[0]) == bits_of(7.0f) && bits_of(singles[1]) == bits_of(7.0f));
+}
+
+/* A walk with visits left, and one that has ended; 1 comes before 17 and 18. */
+static void steps_with_bad_flips(void) {
+    for (int i = 0; i < 2 * BAD_FLIPS; i++) {
+        uint32_t out[5], number = bad_flips[i / 2].number; /* next, given, index, x, y */
+        uint64_t left = i % 2 ? KEPT : 0, before = left;
+        float singles[2] = {7.0f, 7.0f};
+        keep(out, 5);
+        REFUSES(number, vektrid_walk_step(standard, 64, 0, 0, BAD(i / 2), &out[0], &left, &out[1], &out[2], &out[3], &out[4]));
+        REFUSES(1, vektrid_walk_step(standard, 63, 0, 0, BAD(i / 2), &out[0], &left, &out[1], &out[2], &out[3], &out[4]));
+        REFUSES(number, vektrid_walk_step_singles(standard, 64, 0, 0, BAD(i / 2), &out[0], &left, &out[1], &out[2], &singles[0], &singles[1]));
+        REFUSES(1, vektrid_walk_step_singles(standard, 63, 0, 0, BAD(i / 2), &out[0], &left, &out[1], &out[2], &singles[0], &singles[1]));
+        CHECK(all_kept(out, 5) && left == before);
+        CHECK(bits_of(singles[0]) == bits_of(7.0f) && bits_of(singles[1]) == bits_of(7.0f));
+    }
 }
 
 /* Lent NaNs keep their bits, sign and payload too, where a point is refused and where a walk has ended. Only bits are compared and copied: a
@@ -285,11 +501,12 @@ static void kept_nans(void) {
         uint64_t left = 0;
         float singles[2];
         memcpy(singles, patterns[i], sizeof singles);
-        REFUSES(1, vektrid_point_singles(standard, 63, 5, 9, 1, &singles[0], &singles[1]));
+        REFUSES(1, vektrid_point_singles(standard, 63, 5, 9, NO_FLIPS, 1, &singles[0], &singles[1]));
+        REFUSES(18, vektrid_point_singles(standard, 64, 5, 9, bit_255, 32, bit_255, 32, 1, &singles[0], &singles[1]));
         memcpy(bits, singles, sizeof bits);
         CHECK(bits[0] == patterns[i][0] && bits[1] == patterns[i][1]);
         memcpy(singles, patterns[i], sizeof singles);
-        CHECK(vektrid_walk_step_singles(standard, 64, 5, 9, &next, &left, &given, &index, &singles[0], &singles[1]) == 0);
+        CHECK(vektrid_walk_step_singles(standard, 64, 5, 9, NO_FLIPS, &next, &left, &given, &index, &singles[0], &singles[1]) == 0);
         CHECK(given == 0 && next == 7 && left == 0 && index == KEPT);
         memcpy(bits, singles, sizeof bits);
         CHECK(bits[0] == patterns[i][0] && bits[1] == patterns[i][1]);
@@ -300,55 +517,86 @@ static void kept_nans(void) {
 
 static void known_queries(void) {
     uint32_t index = KEPT, j = KEPT;
-    CHECK(vektrid_query(standard, 64, 0, 0, 32, 2, 1, 1, 0, 0, &index, &j) == 0 && index == 3);
-    CHECK(vektrid_query(standard, 64, 0, 0, 32, 2, 1, 1, 0, 1, &index, &j) == 0 && index == 5);
-    CHECK(vektrid_query(standard, 64, 0x80000000u, 0, 32, 2, 1, 1, 0, 0, &index, &j) == 0 && index == 0);
-    CHECK(vektrid_query(standard, 64, 0, 0, 1, 0, 0, 0, 0, LAST, &index, &j) == 0 && index == LAST);
-    CHECK(vektrid_query(standard, 64, 0, 0, 32, 4, 2, 0, 0, 268435455u, &index, &j) == 0 && index >> 4 == 268435455u);
+    CHECK(vektrid_query(standard, 64, 0, 0, NO_FLIPS, 32, 2, 1, 1, 0, 0, &index, &j) == 0 && index == 3);
+    CHECK(vektrid_query(standard, 64, 0, 0, NO_FLIPS, 32, 2, 1, 1, 0, 1, &index, &j) == 0 && index == 5);
+    CHECK(vektrid_query(standard, 64, 0x80000000u, 0, NO_FLIPS, 32, 2, 1, 1, 0, 0, &index, &j) == 0 && index == 0);
+    CHECK(vektrid_query(standard, 64, 0, 0, NO_FLIPS, 1, 0, 0, 0, 0, LAST, &index, &j) == 0 && index == LAST);
+    CHECK(vektrid_query(standard, 64, 0, 0, NO_FLIPS, 32, 4, 2, 0, 0, 268435455u, &index, &j) == 0 && index >> 4 == 268435455u);
     CHECK(j == KEPT);
 }
 
 static void refused_queries(void) {
     uint32_t out[2]; /* index, j */
     keep(out, 2);
-    REFUSES(2, vektrid_query(standard, 64, 0, 0, 33, 2, 1, 1, 0, 0, &out[0], &out[1]));
-    REFUSES(4, vektrid_query(standard, 64, 0, 0, 2, 3, 1, 0, 0, 0, &out[0], &out[1]));
-    REFUSES(5, vektrid_query(standard, 64, 0, 0, 32, 2, 3, 0, 0, 0, &out[0], &out[1]));
-    REFUSES(6, vektrid_query(standard, 64, 0, 0, 32, 2, 1, 2, 0, 0, &out[0], &out[1]));
-    REFUSES(6, vektrid_query(standard, 64, 0, 0, 32, 2, 1, 0, 2, 0, &out[0], &out[1]));
-    REFUSES(7, vektrid_query(standard, 64, 0, 0, 32, 4, 2, 0, 0, 268435456u, &out[0], &out[1]));
-    REFUSES(7, vektrid_query(standard, 64, 0, 0, 32, 32, 2, 0, 0, 1, &out[0], &out[1]));
+    REFUSES(2, vektrid_query(standard, 64, 0, 0, NO_FLIPS, 33, 2, 1, 1, 0, 0, &out[0], &out[1]));
+    REFUSES(4, vektrid_query(standard, 64, 0, 0, NO_FLIPS, 2, 3, 1, 0, 0, 0, &out[0], &out[1]));
+    REFUSES(5, vektrid_query(standard, 64, 0, 0, NO_FLIPS, 32, 2, 3, 0, 0, 0, &out[0], &out[1]));
+    REFUSES(6, vektrid_query(standard, 64, 0, 0, NO_FLIPS, 32, 2, 1, 2, 0, 0, &out[0], &out[1]));
+    REFUSES(6, vektrid_query(standard, 64, 0, 0, NO_FLIPS, 32, 2, 1, 0, 2, 0, &out[0], &out[1]));
+    REFUSES(7, vektrid_query(standard, 64, 0, 0, NO_FLIPS, 32, 4, 2, 0, 0, 268435456u, &out[0], &out[1]));
+    REFUSES(7, vektrid_query(standard, 64, 0, 0, NO_FLIPS, 32, 32, 2, 0, 0, 1, &out[0], &out[1]));
     /* from here each line makes one thing more wrong, and the first in the call's order is given */
-    REFUSES(7, vektrid_query(identities, 64, 0, 0, 32, 4, 2, 0, 0, LAST, &out[0], &out[1]));
-    REFUSES(6, vektrid_query(identities, 64, 0, 0, 32, 4, 2, 4, 0, LAST, &out[0], &out[1]));
-    REFUSES(5, vektrid_query(identities, 64, 0, 0, 32, 4, 5, LAST, LAST, LAST, &out[0], &out[1]));
-    REFUSES(4, vektrid_query(identities, 64, 0, 0, 3, 4, 5, LAST, LAST, LAST, &out[0], &out[1]));
-    REFUSES(2, vektrid_query(identities, 64, 0, 0, 0, LAST, LAST, LAST, LAST, LAST, &out[0], &out[1]));
-    REFUSES(1, vektrid_query(identities, 63, 0, 0, 0, LAST, LAST, LAST, LAST, LAST, &out[0], &out[1]));
+    REFUSES(7, vektrid_query(identities, 64, 0, 0, NO_FLIPS, 32, 4, 2, 0, 0, LAST, &out[0], &out[1]));
+    REFUSES(6, vektrid_query(identities, 64, 0, 0, NO_FLIPS, 32, 4, 2, 4, 0, LAST, &out[0], &out[1]));
+    REFUSES(5, vektrid_query(identities, 64, 0, 0, NO_FLIPS, 32, 4, 5, LAST, LAST, LAST, &out[0], &out[1]));
+    REFUSES(4, vektrid_query(identities, 64, 0, 0, NO_FLIPS, 3, 4, 5, LAST, LAST, LAST, &out[0], &out[1]));
+    REFUSES(2, vektrid_query(identities, 64, 0, 0, NO_FLIPS, 0, LAST, LAST, LAST, LAST, LAST, &out[0], &out[1]));
+    REFUSES(1, vektrid_query(identities, 63, 0, 0, NO_FLIPS, 0, LAST, LAST, LAST, LAST, LAST, &out[0], &out[1]));
     CHECK(all_kept(out, 2));
-    REFUSES(3, vektrid_query(identities, 64, 8, 9, 32, 2, 1, 1, 0, 0, &out[0], &out[1]));
+    REFUSES(3, vektrid_query(identities, 64, 8, 9, NO_FLIPS, 32, 2, 1, 1, 0, 0, &out[0], &out[1]));
     CHECK(out[0] == KEPT && out[1] == 2);
 }
 
+/* 17 and 18 come between 2 and 4. The pair is no net, and cell and block are out of range too. */
+static void queries_with_bad_flips(void) {
+    for (int i = 0; i < BAD_FLIPS; i++) {
+        uint32_t out[2], number = bad_flips[i].number; /* index, j */
+        keep(out, 2);
+        REFUSES(number, vektrid_query(standard, 64, 0, 0, BAD(i), 32, 2, 1, 1, 0, 0, &out[0], &out[1]));
+        REFUSES(number, vektrid_query(identities, 64, 0, 0, BAD(i), 32, 2, 1, 1, 0, 0, &out[0], &out[1]));
+        REFUSES(number, vektrid_query(identities, 64, 0, 0, BAD(i), 1, LAST, LAST, LAST, LAST, LAST, &out[0], &out[1]));
+        REFUSES(2, vektrid_query(identities, 64, 0, 0, BAD(i), 33, LAST, LAST, LAST, LAST, LAST, &out[0], &out[1]));
+        REFUSES(1, vektrid_query(identities, 65, 0, 0, BAD(i), 33, LAST, LAST, LAST, LAST, LAST, &out[0], &out[1]));
+        CHECK(all_kept(out, 2));
+    }
+}
+
+/* Refusal 3 is about the pair alone: with any flips it names the same j. */
+static void not_nets_under_flips(void) {
+    for (int s = 0; s < SCRAMBLES; s++) {
+        uint32_t index = KEPT, j = KEPT;
+        REFUSES(3, vektrid_query(identities, 64, SCRAMBLE(&scrambles[s]), 32, 2, 1, 1, 0, 0, &index, &j));
+        CHECK(index == KEPT && j == 2);
+    }
+}
+
 /* Every cell of one shape and block: the index named lies in the block and in the cell, so that no two cells have the same. */
-static void cells(uint32_t m, uint32_t a, uint32_t block, uint32_t shift_x, uint32_t shift_y) {
+static void cells(uint32_t m, uint32_t a, uint32_t block, const struct scramble *by) {
     for (uint32_t column = 0; column < 1u << a; column++)
         for (uint32_t row = 0; row < 1u << (m - a); row++) {
             uint32_t index = KEPT, j = KEPT;
-            CHECK(vektrid_query(standard, 64, shift_x, shift_y, 5, m, a, column, row, block, &index, &j) == 0);
+            CHECK(vektrid_query(standard, 64, SCRAMBLE(by), 9, m, a, column, row, block, &index, &j) == 0);
             CHECK(index >> m == block);
-            CHECK(top(point_of(standard, shift_x, index), a) == column);
-            CHECK(top(point_of(standard + 32, shift_y, index), m - a) == row);
+            CHECK(top(x_of(standard, by, index), a) == column);
+            CHECK(top(y_of(standard, by, index), m - a) == row);
         }
 }
 
+static void cells_of_shape(uint32_t m, uint32_t a) {
+    for (int s = 0; s < SCRAMBLES; s++) {
+        cells(m, a, 0, &scrambles[s]);
+        cells(m, a, 5, &scrambles[s]);
+        cells(m, a, LAST >> m, &scrambles[s]);
+    }
+}
+
+/* Strips of nine bits go deeper than flips do. */
 static void all_small_cells(void) {
     for (uint32_t m = 0; m <= 5; m++)
-        for (uint32_t a = 0; a <= m; a++) {
-            cells(m, a, 0, 0, 0);
-            cells(m, a, 5, 0x12345678u, 0x9ABCDEF0u);
-            cells(m, a, LAST >> m, LAST, 1);
-        }
+        for (uint32_t a = 0; a <= m; a++)
+            cells_of_shape(m, a);
+    cells_of_shape(9, 0);
+    cells_of_shape(9, 9);
 }
 
 /* ---- many cells at once: the answers stand in the middle of a longer buffer, whose other words must stay */
@@ -369,30 +617,30 @@ static void known_overviews(void) {
         rows[i] = i / 4;
     }
     keep(answers, ROOM);
-    CHECK(vektrid_overview(standard, 64, 0, 0, 4, 4, 2, 0, columns, 16, rows, 16, answers + BEFORE, 16, &j) == 0);
+    CHECK(vektrid_overview(standard, 64, 0, 0, NO_FLIPS, 4, 4, 2, 0, columns, 16, rows, 16, answers + BEFORE, 16, &j) == 0);
     CHECK(memcmp(answers + BEFORE, drawn, sizeof drawn) == 0 && kept_around(answers, 16));
     keep(answers, ROOM);
-    CHECK(vektrid_overview(standard, 64, 0, 0, 4, 4, 2, 0, diagonal, 5, diagonal, 5, answers + BEFORE, 5, &j) == 0);
+    CHECK(vektrid_overview(standard, 64, 0, 0, NO_FLIPS, 4, 4, 2, 0, diagonal, 5, diagonal, 5, answers + BEFORE, 5, &j) == 0);
     CHECK(memcmp(answers + BEFORE, there, sizeof there) == 0 && kept_around(answers, 5));
     keep(answers, ROOM);
-    CHECK(vektrid_overview(zeros, 64, 0, 0, 1, 0, 0, LAST, columns, 1, rows, 1, answers + BEFORE, 1, &j) == 0);
+    CHECK(vektrid_overview(zeros, 64, 0, 0, NO_FLIPS, 1, 0, 0, LAST, columns, 1, rows, 1, answers + BEFORE, 1, &j) == 0);
     CHECK(answers[BEFORE] == LAST && kept_around(answers, 1));
     keep(answers, ROOM);
-    CHECK(vektrid_overview(standard, 64, 0, 0, 32, 32, 9, 0, columns, 0, rows, 0, answers + BEFORE, 0, &j) == 0);
+    CHECK(vektrid_overview(standard, 64, 0, 0, NO_FLIPS, 32, 32, 9, 0, columns, 0, rows, 0, answers + BEFORE, 0, &j) == 0);
     CHECK(kept_around(answers, 0) && j == KEPT);
 }
 
 /* Each answer lies in the block and in its cell. */
-static void overview(uint32_t m, uint32_t a, uint32_t block, uint32_t shift_x, uint32_t shift_y, const uint32_t *columns, const uint32_t *rows,
+static void overview(uint32_t m, uint32_t a, uint32_t block, const struct scramble *by, const uint32_t *columns, const uint32_t *rows,
                      size_t count) {
     uint32_t answers[ROOM], j = KEPT;
     keep(answers, ROOM);
-    CHECK(vektrid_overview(standard, 64, shift_x, shift_y, 32, m, a, block, columns, count, rows, count, answers + BEFORE, count, &j) == 0);
+    CHECK(vektrid_overview(standard, 64, SCRAMBLE(by), 32, m, a, block, columns, count, rows, count, answers + BEFORE, count, &j) == 0);
     for (size_t i = 0; i < count; i++) {
         uint32_t index = answers[BEFORE + i];
         CHECK(top(index, 32 - m) == block);
-        CHECK(top(point_of(standard, shift_x, index), a) == columns[i]);
-        CHECK(top(point_of(standard + 32, shift_y, index), m - a) == rows[i]);
+        CHECK(top(x_of(standard, by, index), a) == columns[i]);
+        CHECK(top(y_of(standard, by, index), m - a) == rows[i]);
     }
     CHECK(kept_around(answers, count) && j == KEPT);
 }
@@ -407,9 +655,11 @@ static void all_small_overviews(void) {
                 cells_of[1][i] = i & ((1u << (m - a)) - 1);
             }
             memcpy(before, cells_of, sizeof before);
-            overview(m, a, 0, 0, 0, cells_of[0], cells_of[1], count);
-            overview(m, a, 5, 0x12345678u, 0x9ABCDEF0u, cells_of[0], cells_of[1], count);
-            overview(m, a, LAST >> m, LAST, 1, cells_of[0], cells_of[1], count);
+            for (int s = 0; s < SCRAMBLES; s++) {
+                overview(m, a, 0, &scrambles[s], cells_of[0], cells_of[1], count);
+                overview(m, a, 5, &scrambles[s], cells_of[0], cells_of[1], count);
+                overview(m, a, LAST >> m, &scrambles[s], cells_of[0], cells_of[1], count);
+            }
             CHECK(memcmp(cells_of, before, sizeof before) == 0);
         }
 }
@@ -420,11 +670,12 @@ static void long_overviews(void) {
     uint32_t word = 1;
     for (int n = 0; n < 6; n++) {
         uint32_t columns[300], rows[300];
-        for (int i = 0; i < 300; i++, word = word * 1664525u + 1013904223u) {
+        for (int i = 0; i < 300; i++, word = next_word(word)) {
             columns[i] = top(word, shapes[n][1]);
             rows[i] = top(~word * 5, shapes[n][0] - shapes[n][1]);
         }
-        overview(shapes[n][0], shapes[n][1], top(word, 32 - shapes[n][0]), 0x12345678u, 0x9ABCDEF0u, columns, rows, 300);
+        for (int s = 0; s < SCRAMBLES; s++)
+            overview(shapes[n][0], shapes[n][1], top(word, 32 - shapes[n][0]), &scrambles[s], columns, rows, 300);
     }
 }
 
@@ -432,34 +683,52 @@ static void refused_overviews(void) {
     static const uint32_t columns[5] = {0, 3, 1, 0, 2}, rows[5] = {0, 3, 2, 1, 0}, far[2] = {LAST, LAST};
     uint32_t answers[ROOM], j = KEPT, *to = answers + BEFORE;
     keep(answers, ROOM);
-    REFUSES(8, vektrid_overview(standard, 64, 0, 0, 32, 4, 2, 0, columns, 4, rows, 5, to, 5, &j));
-    REFUSES(8, vektrid_overview(standard, 64, 0, 0, 32, 4, 2, 0, columns, 5, rows, 4, to, 5, &j));
-    REFUSES(8, vektrid_overview(standard, 64, 0, 0, 32, 4, 2, 0, columns, 5, rows, 5, to, 4, &j));
-    REFUSES(8, vektrid_overview(standard, 64, 0, 0, 32, 4, 2, 0, columns, 3, rows, 4, to, 5, &j));
-    REFUSES(8, vektrid_overview(standard, 64, 0, 0, 32, 4, 2, 0, columns, 0, rows, 0, to, 1, &j));
-    REFUSES(2, vektrid_overview(standard, 64, 0, 0, 33, 4, 2, 0, columns, 5, rows, 5, to, 5, &j));
-    REFUSES(4, vektrid_overview(standard, 64, 0, 0, 3, 4, 2, 0, columns, 5, rows, 5, to, 5, &j));
-    REFUSES(5, vektrid_overview(standard, 64, 0, 0, 32, 4, 5, 0, columns, 5, rows, 5, to, 5, &j));
-    REFUSES(7, vektrid_overview(standard, 64, 0, 0, 32, 4, 2, 268435456u, columns, 5, rows, 5, to, 5, &j));
+    REFUSES(8, vektrid_overview(standard, 64, 0, 0, NO_FLIPS, 32, 4, 2, 0, columns, 4, rows, 5, to, 5, &j));
+    REFUSES(8, vektrid_overview(standard, 64, 0, 0, NO_FLIPS, 32, 4, 2, 0, columns, 5, rows, 4, to, 5, &j));
+    REFUSES(8, vektrid_overview(standard, 64, 0, 0, NO_FLIPS, 32, 4, 2, 0, columns, 5, rows, 5, to, 4, &j));
+    REFUSES(8, vektrid_overview(standard, 64, 0, 0, NO_FLIPS, 32, 4, 2, 0, columns, 3, rows, 4, to, 5, &j));
+    REFUSES(8, vektrid_overview(standard, 64, 0, 0, NO_FLIPS, 32, 4, 2, 0, columns, 0, rows, 0, to, 1, &j));
+    REFUSES(2, vektrid_overview(standard, 64, 0, 0, NO_FLIPS, 33, 4, 2, 0, columns, 5, rows, 5, to, 5, &j));
+    REFUSES(4, vektrid_overview(standard, 64, 0, 0, NO_FLIPS, 3, 4, 2, 0, columns, 5, rows, 5, to, 5, &j));
+    REFUSES(5, vektrid_overview(standard, 64, 0, 0, NO_FLIPS, 32, 4, 5, 0, columns, 5, rows, 5, to, 5, &j));
+    REFUSES(7, vektrid_overview(standard, 64, 0, 0, NO_FLIPS, 32, 4, 2, 268435456u, columns, 5, rows, 5, to, 5, &j));
     /* without cells */
-    REFUSES(2, vektrid_overview(standard, 64, 0, 0, 0, 4, 2, 0, columns, 0, rows, 0, to, 0, &j));
-    REFUSES(4, vektrid_overview(standard, 64, 0, 0, 3, 4, 2, 0, columns, 0, rows, 0, to, 0, &j));
-    REFUSES(5, vektrid_overview(standard, 64, 0, 0, 32, 4, 5, 0, columns, 0, rows, 0, to, 0, &j));
-    REFUSES(7, vektrid_overview(identities, 64, 0, 0, 32, 4, 2, LAST, columns, 0, rows, 0, to, 0, &j));
+    REFUSES(2, vektrid_overview(standard, 64, 0, 0, NO_FLIPS, 0, 4, 2, 0, columns, 0, rows, 0, to, 0, &j));
+    REFUSES(4, vektrid_overview(standard, 64, 0, 0, NO_FLIPS, 3, 4, 2, 0, columns, 0, rows, 0, to, 0, &j));
+    REFUSES(5, vektrid_overview(standard, 64, 0, 0, NO_FLIPS, 32, 4, 5, 0, columns, 0, rows, 0, to, 0, &j));
+    REFUSES(7, vektrid_overview(identities, 64, 0, 0, NO_FLIPS, 32, 4, 2, LAST, columns, 0, rows, 0, to, 0, &j));
     /* from here each line makes one thing more wrong, and the first in the call's order is given */
-    REFUSES(7, vektrid_overview(identities, 64, 0, 0, 32, 4, 2, LAST, columns, 2, rows, 2, to, 2, &j));
-    REFUSES(6, vektrid_overview(identities, 64, 0, 0, 32, 4, 2, LAST, far, 2, far, 2, to, 2, &j));
-    REFUSES(5, vektrid_overview(identities, 64, 0, 0, 32, 4, 5, LAST, far, 2, far, 2, to, 2, &j));
-    REFUSES(4, vektrid_overview(identities, 64, 0, 0, 3, 4, 5, LAST, far, 2, far, 2, to, 2, &j));
-    REFUSES(2, vektrid_overview(identities, 64, 0, 0, 0, LAST, LAST, LAST, far, 2, far, 2, to, 2, &j));
-    REFUSES(8, vektrid_overview(identities, 64, 0, 0, 0, LAST, LAST, LAST, far, 2, far, 2, to, 1, &j));
-    REFUSES(1, vektrid_overview(identities, 63, 0, 0, 0, LAST, LAST, LAST, far, 2, far, 2, to, 1, &j));
+    REFUSES(7, vektrid_overview(identities, 64, 0, 0, NO_FLIPS, 32, 4, 2, LAST, columns, 2, rows, 2, to, 2, &j));
+    REFUSES(6, vektrid_overview(identities, 64, 0, 0, NO_FLIPS, 32, 4, 2, LAST, far, 2, far, 2, to, 2, &j));
+    REFUSES(5, vektrid_overview(identities, 64, 0, 0, NO_FLIPS, 32, 4, 5, LAST, far, 2, far, 2, to, 2, &j));
+    REFUSES(4, vektrid_overview(identities, 64, 0, 0, NO_FLIPS, 3, 4, 5, LAST, far, 2, far, 2, to, 2, &j));
+    REFUSES(2, vektrid_overview(identities, 64, 0, 0, NO_FLIPS, 0, LAST, LAST, LAST, far, 2, far, 2, to, 2, &j));
+    REFUSES(8, vektrid_overview(identities, 64, 0, 0, NO_FLIPS, 0, LAST, LAST, LAST, far, 2, far, 2, to, 1, &j));
+    REFUSES(1, vektrid_overview(identities, 63, 0, 0, NO_FLIPS, 0, LAST, LAST, LAST, far, 2, far, 2, to, 1, &j));
     CHECK(all_kept(answers, ROOM) && j == KEPT);
-    REFUSES(3, vektrid_overview(identities, 64, 8, 9, 32, 2, 1, 0, columns, 1, rows, 1, to, 1, &j));
+    REFUSES(3, vektrid_overview(identities, 64, 8, 9, NO_FLIPS, 32, 2, 1, 0, columns, 1, rows, 1, to, 1, &j));
     CHECK(all_kept(answers, ROOM) && j == 2);
     j = KEPT;
-    REFUSES(3, vektrid_overview(identities, 64, 8, 9, 32, 2, 1, 0, columns, 0, rows, 0, to, 0, &j));
+    REFUSES(3, vektrid_overview(identities, 64, 8, 9, NO_FLIPS, 32, 2, 1, 0, columns, 0, rows, 0, to, 0, &j));
     CHECK(all_kept(answers, ROOM) && j == 2);
+}
+
+/* 8 and 2 come before 17 and 18, and 4 behind them, with cells and without. */
+static void overviews_with_bad_flips(void) {
+    static const uint32_t near[2] = {0, 1}, far[2] = {LAST, LAST};
+    for (int i = 0; i < BAD_FLIPS; i++) {
+        uint32_t answers[ROOM], j = KEPT, *to = answers + BEFORE, number = bad_flips[i].number;
+        keep(answers, ROOM);
+        REFUSES(number, vektrid_overview(standard, 64, 0, 0, BAD(i), 32, 4, 2, 0, near, 2, near, 2, to, 2, &j));
+        REFUSES(number, vektrid_overview(identities, 64, 0, 0, BAD(i), 1, LAST, LAST, LAST, far, 2, far, 2, to, 2, &j));
+        REFUSES(number, vektrid_overview(standard, 64, 0, 0, BAD(i), 32, 4, 2, 0, near, 0, near, 0, to, 0, &j));
+        REFUSES(number, vektrid_overview(identities, 64, 0, 0, BAD(i), 1, LAST, LAST, LAST, near, 0, near, 0, to, 0, &j));
+        REFUSES(2, vektrid_overview(identities, 64, 0, 0, BAD(i), 33, LAST, LAST, LAST, far, 2, far, 2, to, 2, &j));
+        REFUSES(2, vektrid_overview(identities, 64, 0, 0, BAD(i), 0, LAST, LAST, LAST, near, 0, near, 0, to, 0, &j));
+        REFUSES(8, vektrid_overview(identities, 64, 0, 0, BAD(i), 1, LAST, LAST, LAST, far, 2, far, 2, to, 1, &j));
+        REFUSES(1, vektrid_overview(identities, 63, 0, 0, BAD(i), 1, LAST, LAST, LAST, far, 2, far, 2, to, 1, &j));
+        CHECK(all_kept(answers, ROOM) && j == KEPT);
+    }
 }
 
 /* One cell outside the shape, at each place: the first cell is judged before the block and the pair, the others after them. */
@@ -470,12 +739,12 @@ static void overviews_with_a_cell_outside(void) {
         keep(answers, ROOM);
         memcpy(outside, inside, sizeof outside);
         outside[place] = 4;
-        REFUSES(6, vektrid_overview(standard, 64, 0, 0, 32, 4, 2, 0, outside, 6, inside, 6, to, 6, &j));
-        REFUSES(6, vektrid_overview(standard, 64, 0, 0, 32, 4, 2, 0, inside, 6, outside, 6, to, 6, &j));
-        REFUSES(place == 0 ? 6 : 7, vektrid_overview(standard, 64, 0, 0, 32, 4, 2, LAST, outside, 6, inside, 6, to, 6, &j));
-        REFUSES(place == 0 ? 6 : 7, vektrid_overview(identities, 64, 0, 0, 32, 4, 2, LAST, inside, 6, outside, 6, to, 6, &j));
+        REFUSES(6, vektrid_overview(standard, 64, 0, 0, NO_FLIPS, 32, 4, 2, 0, outside, 6, inside, 6, to, 6, &j));
+        REFUSES(6, vektrid_overview(standard, 64, 0, 0, NO_FLIPS, 32, 4, 2, 0, inside, 6, outside, 6, to, 6, &j));
+        REFUSES(place == 0 ? 6 : 7, vektrid_overview(standard, 64, 0, 0, NO_FLIPS, 32, 4, 2, LAST, outside, 6, inside, 6, to, 6, &j));
+        REFUSES(place == 0 ? 6 : 7, vektrid_overview(identities, 64, 0, 0, NO_FLIPS, 32, 4, 2, LAST, inside, 6, outside, 6, to, 6, &j));
         CHECK(j == KEPT);
-        REFUSES(place == 0 ? 6 : 3, vektrid_overview(identities, 64, 0, 0, 32, 4, 2, 0, outside, 6, inside, 6, to, 6, &j));
+        REFUSES(place == 0 ? 6 : 3, vektrid_overview(identities, 64, 0, 0, NO_FLIPS, 32, 4, 2, 0, outside, 6, inside, 6, to, 6, &j));
         CHECK(all_kept(answers, ROOM) && j == (place == 0 ? KEPT : 4));
     }
 }
@@ -488,13 +757,9 @@ static void unit_numbers(void) {
     CHECK(bits_of(vektrid_single(LAST)) == 0x3F7FFFFFu);
     CHECK(bits_of(vektrid_single(0x7FFFFFFFu)) == 0x3EFFFFFFu); /* and not one half */
     CHECK(bits_of(vektrid_single(0x80000000u)) == 0x3F000000u);
-    for (uint32_t word = 0, n = 0; n < 100; n++, word = word * 1664525u + 1013904223u) {
-        float x = 7.0f, y = 7.0f;
+    for (uint32_t word = 0, n = 0; n < 100; n++, word = next_word(word)) {
         CHECK(vektrid_double(word) * 4294967296.0 == (double)word); /* both are exact */
         CHECK((double)vektrid_single(word) <= vektrid_double(word));
-        CHECK(vektrid_point_singles(standard, 64, word, 3, n, &x, &y) == 0);
-        CHECK(bits_of(x) == bits_of(vektrid_single(point_of(standard, word, n))));
-        CHECK(bits_of(y) == bits_of(vektrid_single(point_of(standard + 32, 3, n))));
     }
 }
 
@@ -999,30 +1264,51 @@ static void any_content(void) {
     }
 }
 
+/* The flips that were lent are what they were. */
+static void lent_flips(void) {
+    struct scramble made[SCRAMBLES];
+    make_scrambles(made);
+    CHECK(memcmp(scrambles, made, sizeof made) == 0);
+    for (uint32_t n = 0; n < 512; n++)
+        CHECK(!flip_bit(zero_bytes, n) && flip_bit(set_bytes, n) && (n > 255 || flip_bit(bit_255, n) == (n == 255)));
+    for (int i = 0; i < 32; i++)
+        CHECK(vektrid_no_flips[i] == 0);
+}
+
 int main(void) {
     make_pairs();
+    make_scrambles(scrambles);
+    make_bad_flips();
     interface_number();
     standard_pairs();
     checked_pairs();
     checked_strips();
     known_points();
+    known_points_under_flips();
     points();
+    single_flip_bits();
+    flips_anywhere();
     refused_points();
+    points_with_bad_flips();
     all_fills();
     refused_fills();
+    fills_with_bad_flips();
     opened_walks();
-    stepped_walk();
-    walk_of_singles();
+    walks();
     walk_at_the_last_index();
     refused_steps();
+    steps_with_bad_flips();
     kept_nans();
     known_queries();
     refused_queries();
+    queries_with_bad_flips();
+    not_nets_under_flips();
     all_small_cells();
     known_overviews();
     all_small_overviews();
     long_overviews();
     refused_overviews();
+    overviews_with_bad_flips();
     overviews_with_a_cell_outside();
     unit_numbers();
     refused_positions();
@@ -1042,7 +1328,8 @@ int main(void) {
     words_of_sheet_cursors();
     sizes();
     any_content();
-    for (int number = 1; number <= 16; number++)
+    lent_flips();
+    for (int number = 1; number <= 18; number++)
         CHECK(refused[number] > 0);
     printf("interface.c: %u checks, %u failed\n", checks, failures);
     return failures == 0 ? 0 : 1;

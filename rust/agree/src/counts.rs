@@ -7,11 +7,12 @@ use std::ops::RangeInclusive;
 use reference::counts::{cell_counts, count_bounds, count_bounds_from};
 use reference::pair;
 use reference::trial::splitmix::Splitmix;
-use vektrid::{Pair, Point, Refusal, Shift, Walk};
+use vektrid::{Pair, Point, Refusal, Walk};
 
 use crate::case::Case;
 use crate::pairs::{self, Words};
-use crate::simpler::{simpler_number, simpler_shift};
+use crate::scrambles::{self, Scrambled};
+use crate::simpler::{simpler_number, simpler_scramble};
 use crate::{same, text};
 
 const INDEXES: u64 = 1 << 32;
@@ -23,7 +24,8 @@ const LARGEST_SIZE: u32 = 8;
 pub struct Count {
     /// Of a pair that the library accepts to the level m, where m is not 0.
     words: Words,
-    shift: Shift,
+    /// Accepted.
+    scramble: Scrambled,
     m: u32,
     a: u32,
     start: u64,
@@ -55,7 +57,7 @@ impl Case for Count {
 
     fn make(random: &mut Splitmix, number: u64) -> Count {
         let words = pairs::mostly_nets(random);
-        let m = accepted_size(&words, random.below(LARGEST_SIZE + 1));
+        let m = pairs::accepted_size(&words, random.below(LARGEST_SIZE + 1));
         let n = length(random, m);
         let start = start(random, m, n);
         let way = match number % 3 {
@@ -67,18 +69,21 @@ impl Case for Count {
             _ if random.one_in(2) => Way::Walk { count: n, steps: n + u64::from(random.below(3)) },
             _ => Way::Walk { count: INDEXES - start, steps: n },
         };
-        Count { words, shift: pairs::shift(random), m, a: random.below(m + 1), start, n, way }
+        let scramble = scrambles::accepted(random);
+        Count { words, scramble, m, a: random.below(m + 1), start, n, way }
     }
 
     fn expected(&self) -> Answer {
-        let (pair, shift) = same::arguments(&self.words, self.shift);
-        let indexes = self.start..self.start + self.n;
-        let points: Vec<pair::Point> = indexes.map(|i| pair.point(i as u32, shift)).collect();
+        let (pair, scramble) = (same::pair(&self.words), self.scramble.reference());
+        let points = (self.start..self.start + self.n)
+            .map(|index| pair.point(index as u32, scramble).expect("the scramble is accepted"));
+        let points: Vec<pair::Point> = points.collect();
         Answer { counts: cell_counts(&points, self.m, self.a), outside: Vec::new() }
     }
 
     fn given(&self) -> Answer {
-        let points = self.points(&same::bound(&self.words)).expect("the range has an end");
+        let points =
+            self.points(&same::bound(&self.words)).expect("range and scramble are accepted");
         let points: Vec<pair::Point> =
             points.iter().map(|point| pair::Point { x: point.x, y: point.y }).collect();
         let (counts, bounds) = (cell_counts(&points, self.m, self.a), self.bounds());
@@ -103,16 +108,17 @@ impl Case for Count {
         let lengths = simpler_number(n).into_iter().filter(|&n| n > 0);
         simpler.extend(lengths.map(|n| self.moved(start, n)));
         simpler.extend(simpler_number(start).into_iter().map(|start| self.moved(start, n)));
-        simpler.extend(simpler_shift(self.shift).into_iter().map(|shift| Count { shift, ..*self }));
+        let scrambles = simpler_scramble(self.scramble).into_iter();
+        simpler.extend(scrambles.map(|scramble| Count { scramble, ..*self }));
         simpler
     }
 
     fn test(&self) -> String {
-        let Count { words, shift, m, a, .. } = self;
+        let Count { words, scramble, m, a, .. } = self;
         let (column_shift, row_shift, row_bits) = (32 - a, 32 - (m - a), m - a);
         format!(
             "{}\n\
-             let shift = {shift:?};\n\
+             {}\n\
              {}\n\
              let mut counts = vec![0; {}];\n\
              for point in points {{\n    \
@@ -123,6 +129,7 @@ impl Case for Count {
              assert!(counts.iter().all(|count| ({:?}).contains(count)));\n\
              assert_eq!(counts, {:?});",
             text::let_pair(words),
+            text::let_scramble(scramble),
             self.let_points(),
             1 << m,
             self.bounds(),
@@ -153,15 +160,16 @@ impl Count {
 
     /// The points of the range, by the library.
     fn points(&self, pair: &Pair) -> Result<Vec<Point>, Refusal> {
+        let scramble = self.scramble.judged()?;
         match self.way {
             Way::Points => {
                 let indexes = self.start..self.start + self.n;
-                Ok(indexes.map(|index| pair.point(self.shift, index as u32)).collect())
+                Ok(indexes.map(|index| pair.point(scramble, index as u32)).collect())
             }
             Way::Fill { before, behind } => {
                 let (first, length) = (self.start - before, (before + self.n + behind) as usize);
                 let (mut xs, mut ys) = (vec![0; length], vec![0; length]);
-                pair.fill(self.shift, first as u32, &mut xs, &mut ys)?;
+                pair.fill(scramble, first as u32, &mut xs, &mut ys)?;
                 let filled = xs.iter().zip(&ys).map(|(&x, &y)| Point { x, y });
                 Ok(filled.skip(before as usize).take(self.n as usize).collect())
             }
@@ -169,7 +177,7 @@ impl Count {
                 let mut walk = Walk::open(self.start as u32, count)?;
                 let mut points = Vec::new();
                 for _ in 0..steps {
-                    let (visit, after) = walk.step(pair, self.shift);
+                    let (visit, after) = walk.step(pair, scramble);
                     points.extend(visit.map(|visit| visit.point));
                     walk = after;
                 }
@@ -184,12 +192,12 @@ impl Count {
         match self.way {
             Way::Points => format!(
                 "let indexes = {start}u64..{};\n\
-                 let points = indexes.map(|index| pair.point(shift, index as u32));",
+                 let points = indexes.map(|index| pair.point(scramble, index as u32));",
                 start + n
             ),
             Way::Fill { before, behind } => format!(
                 "let (mut xs, mut ys) = (vec![0; {length}], vec![0; {length}]);\n\
-                 pair.fill(shift, {}, &mut xs, &mut ys).unwrap();\n\
+                 pair.fill(scramble, {}, &mut xs, &mut ys).unwrap();\n\
                  let filled = xs.iter().zip(&ys).map(|(&x, &y)| Point {{ x, y }});\n\
                  let points = filled.skip({before}).take({n});",
                 start - before,
@@ -198,24 +206,12 @@ impl Count {
             Way::Walk { count, steps } => format!(
                 "let mut walk = Walk::open({start}, {count}).unwrap();\n\
                  let points = (0..{steps}).filter_map(|_| {{\n    \
-                     let (visit, after) = walk.step(&pair, shift);\n    \
+                     let (visit, after) = walk.step(&pair, scramble);\n    \
                      walk = after;\n    \
                      visit.map(|visit| visit.point)\n\
                  }});"
             ),
         }
-    }
-}
-
-/// The largest size up to the wanted one that the library accepts the pair to.
-fn accepted_size(words: &Words, wanted: u32) -> u32 {
-    if wanted == 0 {
-        return 0;
-    }
-    match same::bound(words).check(wanted) {
-        Ok(()) => wanted,
-        Err(Refusal::NotNet { m, .. }) => m - 1,
-        Err(refusal) => unreachable!("a level of 1 to 8 is refused under {}", refusal.number()),
     }
 }
 

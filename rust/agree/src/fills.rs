@@ -1,11 +1,12 @@
 //! Fills, into the middle of larger buffers whose other places are compared too.
 
 use reference::trial::splitmix::Splitmix;
-use vektrid::{Refusal, Shift};
+use vektrid::{fill_words, Refusal};
 
 use crate::case::Case;
 use crate::pairs::{self, Words};
-use crate::simpler::{simpler_number, simpler_pair, simpler_shift, simpler_word};
+use crate::scrambles::{self, Scrambled};
+use crate::simpler::{simpler_number, simpler_pair, simpler_scramble, simpler_word};
 use crate::{same, text};
 
 /// What the buffers hold before a fill.
@@ -18,7 +19,7 @@ const LONG: u64 = 20;
 #[derive(Clone, Copy)]
 pub struct Fill {
     words: Words,
-    shift: Shift,
+    scramble: Scrambled,
     start: u32,
     x_length: usize,
     y_length: usize,
@@ -34,7 +35,7 @@ type Answer = (Result<(), Refusal>, Vec<u32>, Vec<u32>);
 impl Case for Fill {
     const NAME: &'static str = "fill";
     const COUNT: u64 = SHORT + ACROSS + LONG;
-    const OUTCOMES: &'static [u32] = &[0, 8, 9];
+    const OUTCOMES: &'static [u32] = &[0, 8, 9, 17, 18];
     type Answer = Answer;
 
     fn make(random: &mut Splitmix, number: u64) -> Fill {
@@ -52,21 +53,20 @@ impl Case for Fill {
             2 => random.below(300) as usize,
             _ => x_length,
         };
-        let (words, shift) = (pairs::of_turn(random, number), pairs::shift(random));
+        let (words, scramble) = (pairs::of_turn(random, number), scrambles::any(random));
         let before = 8 + random.below(16) as usize;
-        Fill { words, shift, start, x_length, y_length, before, behind: 20 }
+        Fill { words, scramble, start, x_length, y_length, before, behind: 20 }
     }
 
     fn expected(&self) -> Answer {
-        let (pair, shift) = same::arguments(&self.words, self.shift);
+        let (pair, scramble) = (same::pair(&self.words), self.scramble.reference());
         self.answer(|xs, ys| {
-            reference::fill::fill(&pair, shift, self.start, xs, ys).map_err(same::refusal)
+            reference::fill::fill(&pair, scramble, self.start, xs, ys).map_err(same::refusal)
         })
     }
 
     fn given(&self) -> Answer {
-        let pair = same::bound(&self.words);
-        self.answer(|xs, ys| pair.fill(self.shift, self.start, xs, ys))
+        self.answer(|xs, ys| fill_words(&self.words, self.scramble.bytes(), self.start, xs, ys))
     }
 
     fn outcome((answer, _, _): &Answer) -> u32 {
@@ -78,23 +78,27 @@ impl Case for Fill {
         simpler.extend((self.before > 0).then_some(Fill { before: 0, ..*self }));
         simpler.extend((self.behind > 0).then_some(Fill { behind: 0, ..*self }));
         simpler.extend(simpler_word(self.start).into_iter().map(|start| Fill { start, ..*self }));
-        simpler.extend(simpler_shift(self.shift).into_iter().map(|shift| Fill { shift, ..*self }));
+        let scrambles = simpler_scramble(self.scramble).into_iter();
+        simpler.extend(scrambles.map(|scramble| Fill { scramble, ..*self }));
         simpler.extend(simpler_pair(&self.words).into_iter().map(|words| Fill { words, ..*self }));
         simpler
     }
 
     fn test(&self) -> String {
-        let Fill { words, shift, start, x_length, y_length, before, .. } = self;
+        let Fill { words, scramble, start, x_length, y_length, before, .. } = self;
         let (answer, xs, ys) = self.expected();
         let (x_end, y_end) = (before + x_length, before + y_length);
         format!(
             "{}\n\
+             {}\n\
              let (mut xs, mut ys) = (vec![{MARK}; {}], vec![{MARK}; {}]);\n\
              let (x_part, y_part) = (&mut xs[{before}..{x_end}], &mut ys[{before}..{y_end}]);\n\
-             assert_eq!(pair.fill({shift:?}, {start}, x_part, y_part), {});\n\
+             let answer = fill_words(pair.words(), scramble, {start}, x_part, y_part);\n\
+             assert_eq!(answer, {});\n\
              assert_eq!(xs, {xs:?});\n\
              assert_eq!(ys, {ys:?});",
             text::let_pair(words),
+            text::let_bytes(scramble),
             xs.len(),
             ys.len(),
             text::answer(&answer)

@@ -6,6 +6,7 @@
 
 #![forbid(unsafe_code)]
 
+mod blocks;
 mod case;
 mod checks;
 mod counts;
@@ -20,6 +21,8 @@ mod points;
 mod positions;
 mod queries;
 mod same;
+mod scrambles;
+mod seeds;
 mod simpler;
 mod standard_words;
 mod tally;
@@ -70,6 +73,7 @@ fn seed() -> Result<u64, String> {
 fn all(seed: u64) -> Result<(), String> {
     compare::<standard_words::StandardWord>(seed)?;
     compare::<checks::Check>(seed)?;
+    compare::<seeds::Seed>(seed)?;
     compare::<points::PointOf>(seed)?;
     compare::<fills::Fill>(seed)?;
     compare::<openings::Opening>(seed)?;
@@ -77,6 +81,7 @@ fn all(seed: u64) -> Result<(), String> {
     compare::<queries::Query>(seed)?;
     compare::<overviews::Overview>(seed)?;
     compare::<counts::Count>(seed)?;
+    compare::<blocks::Block>(seed)?;
     compare::<word_counts::WordCount>(seed)?;
     compare::<units::Unit>(seed)?;
     compare::<positions::PositionIn>(seed)?;

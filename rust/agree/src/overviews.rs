@@ -5,13 +5,14 @@
 
 use reference::overview::overview;
 use reference::trial::splitmix::Splitmix;
-use vektrid::{Cell, Cells, Refusal, Shift};
+use vektrid::{overview_words, Cell, Cells, Refusal};
 
 use crate::case::Case;
 use crate::limits::{at_limit, wild};
 use crate::pairs::{self, Words};
 use crate::queries::{anything, shape, SHAPES};
-use crate::simpler::{simpler_number, simpler_pair, simpler_shift, simpler_word};
+use crate::scrambles::{self, Scrambled};
+use crate::simpler::{simpler_number, simpler_pair, simpler_scramble, simpler_word};
 use crate::{same, text};
 
 /// What the buffer holds before an overview.
@@ -31,7 +32,7 @@ const SIMPLER_CELLS: usize = 4;
 #[derive(Clone)]
 pub struct Overview {
     words: Words,
-    shift: Shift,
+    scramble: Scrambled,
     level: u32,
     m: u32,
     a: u32,
@@ -52,7 +53,7 @@ type Answer = (Result<(), Refusal>, Vec<u32>);
 impl Case for Overview {
     const NAME: &'static str = "overview";
     const COUNT: u64 = IN_ORDER + ONE_OUTSIDE + LENGTHS + WILD;
-    const OUTCOMES: &'static [u32] = &[0, 2, 3, 4, 5, 6, 7, 8];
+    const OUTCOMES: &'static [u32] = &[0, 2, 3, 4, 5, 6, 7, 8, 17, 18];
     type Answer = Answer;
 
     fn make(random: &mut Splitmix, number: u64) -> Overview {
@@ -68,17 +69,17 @@ impl Case for Overview {
     }
 
     fn expected(&self) -> Answer {
-        let (pair, shift) = same::arguments(&self.words, self.shift);
+        let (pair, scramble) = (same::pair(&self.words), self.scramble.reference());
         let Overview { level, m, a, block, ref columns, ref rows, .. } = *self;
         self.answer(|answers| {
-            overview(&pair, shift, level, m, a, block, columns, rows, answers)
+            overview(&pair, scramble, level, m, a, block, columns, rows, answers)
                 .map_err(same::refusal)
         })
     }
 
     fn given(&self) -> Answer {
-        let pair = same::bound(&self.words);
-        self.answer(|answers| pair.overview(self.shift, self.level, self.cells(), answers))
+        let (scramble, level) = (self.scramble.bytes(), self.level);
+        self.answer(|answers| overview_words(&self.words, scramble, level, self.cells(), answers))
     }
 
     fn outcome((answer, _): &Answer) -> u32 {
@@ -92,24 +93,27 @@ impl Case for Overview {
         simpler.extend((self.behind > 1).then(|| Overview { behind: 1, ..self.clone() }));
         simpler.extend(self.with_simpler_numbers());
         simpler.extend(self.with_simpler_cells());
-        let shifts = simpler_shift(self.shift).into_iter();
-        simpler.extend(shifts.map(|shift| Overview { shift, ..self.clone() }));
+        let scrambles = simpler_scramble(self.scramble).into_iter();
+        simpler.extend(scrambles.map(|scramble| Overview { scramble, ..self.clone() }));
         let pairs = simpler_pair(&self.words).into_iter();
         simpler.extend(pairs.map(|words| Overview { words, ..self.clone() }));
         simpler
     }
 
     fn test(&self) -> String {
-        let Overview { words, shift, level, length, before, .. } = self;
+        let Overview { words, scramble, level, length, before, .. } = self;
         let (answer, answers) = self.expected();
         format!(
             "{}\n\
+             {}\n\
              let mut answers = vec![{MARK}; {}];\n\
              let cells = {};\n\
              let part = &mut answers[{before}..{}];\n\
-             assert_eq!(pair.overview({shift:?}, {level}, cells, part), {});\n\
+             let answer = overview_words(pair.words(), scramble, {level}, cells, part);\n\
+             assert_eq!(answer, {});\n\
              assert_eq!(answers, {answers:?});",
             text::let_pair(words),
+            text::let_bytes(scramble),
             answers.len(),
             self.cells_as_text(),
             before + length,
@@ -199,9 +203,9 @@ fn of_shape(random: &mut Splitmix, (m, a): (u32, u32), length: usize) -> Overvie
     let block = inside(random, 32 - m);
     let columns = (0..length).map(|_| inside(random, a)).collect();
     let rows = (0..length).map(|_| inside(random, m - a)).collect();
-    let (words, shift) = (pairs::mostly_nets(random), pairs::shift(random));
+    let (words, scramble) = (pairs::mostly_nets(random), scrambles::any(random));
     let before = 8 + random.below(16) as usize;
-    Overview { words, shift, level: 32, m, a, block, columns, rows, length, before, behind: 20 }
+    Overview { words, scramble, level: 32, m, a, block, columns, rows, length, before, behind: 20 }
 }
 
 /// A number below 2^bits: 0, the last, or any.
@@ -337,7 +341,11 @@ mod tests {
         }
         let first = [(0, false, 6), (0, true, 6)];
         let later = (1..12).flat_map(|at| [(at, false, 3), (at, false, 6), (at, true, 7)]);
-        assert_eq!(seen, first.into_iter().chain(later).collect());
+        // Flips come before all of these.
+        let flips =
+            (0..12).flat_map(|at| [17, 18].map(|number| [(at, false, number), (at, true, number)]));
+        let expected = first.into_iter().chain(later).chain(flips.flatten());
+        assert_eq!(seen, expected.collect());
     }
 
     #[test]

@@ -1,8 +1,10 @@
-//! Pairs to try, as words, and shifts.
+//! Pairs to try, as words.
 
 use reference::pair::Pair;
 use reference::trial::splitmix::Splitmix;
-use vektrid::Shift;
+use vektrid::Refusal;
+
+use crate::same;
 
 pub type Words = [u32; 64];
 
@@ -89,12 +91,15 @@ fn words_of(pair: Pair) -> Words {
     words
 }
 
-/// No shift, shifts of one bit, and any.
-pub fn shift(random: &mut Splitmix) -> Shift {
-    match random.below(4) {
-        0 => Shift::default(),
-        1 => Shift { x: 1 << random.below(32), y: 1 << random.below(32) },
-        _ => Shift { x: random.word(), y: random.word() },
+/// The largest size up to the wanted one that the library accepts the pair to.
+pub fn accepted_size(words: &Words, wanted: u32) -> u32 {
+    if wanted == 0 {
+        return 0;
+    }
+    match same::bound(words).check(wanted) {
+        Ok(()) => wanted,
+        Err(Refusal::NotNet { m, .. }) => m - 1,
+        Err(refusal) => unreachable!("a level of 1 to 32 is refused under {}", refusal.number()),
     }
 }
 

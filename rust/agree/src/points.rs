@@ -1,20 +1,22 @@
-//! Points of single indexes: as words, as singles, and of the standard pair by the fast way.
+//! Points of single indexes: as words, as singles, and of the standard pair by the fast way; and flips
+//! judged alone.
 
 use reference::pair::Pair;
 use reference::trial::splitmix::Splitmix;
 use reference::unit;
-use vektrid::{Point, Shift, Singles};
+use vektrid::{point_singles_words, point_words, standard_point_bytes, Point, Refusal, Singles};
 
 use crate::case::Case;
 use crate::limits::wild;
 use crate::pairs::{self, Words};
-use crate::simpler::{simpler_pair, simpler_shift, simpler_word};
+use crate::scrambles::{self, Scrambled};
+use crate::simpler::{simpler_pair, simpler_scramble, simpler_word};
 use crate::{same, text};
 
 #[derive(Clone, Copy)]
 pub struct PointOf {
     words: Words,
-    shift: Shift,
+    scramble: Scrambled,
     index: u32,
 }
 
@@ -23,65 +25,78 @@ pub type Bits = (u32, u32);
 
 #[derive(Debug, PartialEq)]
 pub struct Answer {
-    point: Point,
-    singles: Bits,
-    standard: Point,
+    point: Result<Point, Refusal>,
+    singles: Result<Bits, Refusal>,
+    standard: Result<Point, Refusal>,
+    judged: Result<(), Refusal>,
 }
 
 impl Case for PointOf {
     const NAME: &'static str = "point";
     const COUNT: u64 = 300_000;
-    const OUTCOMES: &'static [u32] = &[0];
+    const OUTCOMES: &'static [u32] = &[0, 17, 18];
     type Answer = Answer;
 
     fn make(random: &mut Splitmix, number: u64) -> PointOf {
-        let (words, shift) = (pairs::of_turn(random, number), pairs::shift(random));
-        PointOf { words, shift, index: wild(random) }
+        let (words, scramble) = (pairs::of_turn(random, number), scrambles::any(random));
+        PointOf { words, scramble, index: wild(random) }
     }
 
     fn expected(&self) -> Answer {
-        let (pair, shift) = same::arguments(&self.words, self.shift);
-        let point = pair.point(self.index, shift);
-        let standard = Pair::standard().point(self.index, shift);
-        let singles = expected_bits(point);
-        Answer { point: same::point(point), singles, standard: same::point(standard) }
-    }
-
-    fn given(&self) -> Answer {
-        let (pair, shift, index) = (same::bound(&self.words), self.shift, self.index);
+        let scramble = self.scramble.reference();
+        let point = same::pair(&self.words).point(self.index, scramble).map_err(same::refusal);
+        let standard = Pair::standard().point(self.index, scramble).map_err(same::refusal);
         Answer {
-            point: pair.point(shift, index),
-            singles: bits(pair.point_singles(shift, index)),
-            standard: vektrid::standard_point(shift, index),
+            point: point.map(same::point),
+            singles: point.map(expected_bits),
+            standard: standard.map(same::point),
+            judged: scramble.judge().map_err(same::refusal),
         }
     }
 
-    fn outcome(_: &Answer) -> u32 {
-        0
+    fn given(&self) -> Answer {
+        let PointOf { ref words, ref scramble, index } = *self;
+        Answer {
+            point: point_words(words, scramble.bytes(), index),
+            singles: point_singles_words(words, scramble.bytes(), index).map(bits),
+            standard: standard_point_bytes(scramble.bytes(), index),
+            judged: scramble.judged().map(|_| ()),
+        }
+    }
+
+    fn outcome(answer: &Answer) -> u32 {
+        same::outcome(&answer.point)
     }
 
     fn simpler(&self) -> Vec<PointOf> {
         let mut simpler = Vec::new();
-        simpler
-            .extend(simpler_word(self.index).into_iter().map(|index| PointOf { index, ..*self }));
-        simpler
-            .extend(simpler_shift(self.shift).into_iter().map(|shift| PointOf { shift, ..*self }));
-        simpler
-            .extend(simpler_pair(&self.words).into_iter().map(|words| PointOf { words, ..*self }));
+        let indexes = simpler_word(self.index).into_iter();
+        simpler.extend(indexes.map(|index| PointOf { index, ..*self }));
+        let scrambles = simpler_scramble(self.scramble).into_iter();
+        simpler.extend(scrambles.map(|scramble| PointOf { scramble, ..*self }));
+        let pairs = simpler_pair(&self.words).into_iter();
+        simpler.extend(pairs.map(|words| PointOf { words, ..*self }));
         simpler
     }
 
     fn test(&self) -> String {
-        let (shift, index) = (self.shift, self.index);
-        let Answer { point, singles: (x, y), standard } = self.expected();
+        let (index, Answer { point, singles, standard, judged }) = (self.index, self.expected());
         format!(
             "{}\n\
-             let shift = {shift:?};\n\
-             assert_eq!(pair.point(shift, {index}), {point:?});\n\
-             assert_eq!(standard_point(shift, {index}), {standard:?});\n\
-             let singles = pair.point_singles(shift, {index});\n\
-             assert_eq!((singles.x.to_bits(), singles.y.to_bits()), (0x{x:08X}, 0x{y:08X}));",
-            text::let_pair(&self.words)
+             {}\n\
+             assert_eq!(point_words(pair.words(), scramble, {index}), {});\n\
+             assert_eq!(standard_point_bytes(scramble, {index}), {});\n\
+             let singles = point_singles_words(pair.words(), scramble, {index});\n\
+             let bits = singles.map(|singles| (singles.x.to_bits(), singles.y.to_bits()));\n\
+             assert_eq!(bits, {});\n\
+             let judged = Flips::from_bytes(scramble.flips_x, scramble.flips_y).map(|_| ());\n\
+             assert_eq!(judged, {});",
+            text::let_pair(&self.words),
+            text::let_bytes(&self.scramble),
+            text::answer(&point),
+            text::answer(&standard),
+            text::answer(&singles),
+            text::answer(&judged)
         )
     }
 }

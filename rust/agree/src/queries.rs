@@ -3,12 +3,13 @@
 
 use reference::query;
 use reference::trial::splitmix::Splitmix;
-use vektrid::{Cell, Refusal, Shift};
+use vektrid::{query_words, Cell, Refusal};
 
 use crate::case::Case;
 use crate::limits::{at_limit, wild};
 use crate::pairs::{self, Words};
-use crate::simpler::{simpler_pair, simpler_shift, simpler_word};
+use crate::scrambles::{self, Scrambled};
+use crate::simpler::{simpler_pair, simpler_scramble, simpler_word};
 use crate::{same, text};
 
 /// The shapes (m, a) with 0 ≤ a ≤ m ≤ 32.
@@ -17,7 +18,7 @@ pub const SHAPES: u64 = 33 * 34 / 2;
 /// Four columns, rows, blocks and levels of each shape.
 const CHOICES: u64 = 4 * 4 * 4 * 4;
 
-/// Twice, each time with another pair and shift.
+/// Twice, each time with another pair and scramble.
 const LIMITS: u64 = 2 * SHAPES * CHOICES;
 
 const WILD: u64 = 30_000;
@@ -25,7 +26,7 @@ const WILD: u64 = 30_000;
 #[derive(Clone, Copy)]
 pub struct Query {
     words: Words,
-    shift: Shift,
+    scramble: Scrambled,
     level: u32,
     cell: Cell,
 }
@@ -33,28 +34,28 @@ pub struct Query {
 impl Case for Query {
     const NAME: &'static str = "query";
     const COUNT: u64 = LIMITS + WILD;
-    const OUTCOMES: &'static [u32] = &[0, 2, 3, 4, 5, 6, 7];
+    const OUTCOMES: &'static [u32] = &[0, 2, 3, 4, 5, 6, 7, 17, 18];
     type Answer = Result<u32, Refusal>;
 
     fn make(random: &mut Splitmix, number: u64) -> Query {
-        let (words, shift) = (pairs::mostly_nets(random), pairs::shift(random));
+        let (words, scramble) = (pairs::mostly_nets(random), scrambles::any(random));
         let (level, cell) = if number < LIMITS {
             at_limits(random, shape(number / CHOICES % SHAPES), number % CHOICES)
         } else {
             anything(random)
         };
-        Query { words, shift, level, cell }
+        Query { words, scramble, level, cell }
     }
 
     fn expected(&self) -> Result<u32, Refusal> {
-        let (pair, shift) = same::arguments(&self.words, self.shift);
+        let (pair, scramble) = (same::pair(&self.words), self.scramble.reference());
         let Cell { m, a, column, row, block } = self.cell;
         let cell = query::Query { m, a, column, row, block };
-        query::query(&pair, shift, self.level, cell).map_err(same::refusal)
+        query::query(&pair, scramble, self.level, cell).map_err(same::refusal)
     }
 
     fn given(&self) -> Result<u32, Refusal> {
-        same::bound(&self.words).query(self.shift, self.level, self.cell)
+        query_words(&self.words, self.scramble.bytes(), self.level, self.cell)
     }
 
     fn outcome(answer: &Result<u32, Refusal>) -> u32 {
@@ -65,16 +66,21 @@ impl Case for Query {
         let mut simpler = Vec::new();
         simpler.extend(simpler_cell(self.cell).into_iter().map(|cell| Query { cell, ..*self }));
         simpler.extend(simpler_word(self.level).into_iter().map(|level| Query { level, ..*self }));
-        simpler.extend(simpler_shift(self.shift).into_iter().map(|shift| Query { shift, ..*self }));
+        let scrambles = simpler_scramble(self.scramble).into_iter();
+        simpler.extend(scrambles.map(|scramble| Query { scramble, ..*self }));
         simpler.extend(simpler_pair(&self.words).into_iter().map(|words| Query { words, ..*self }));
         simpler
     }
 
     fn test(&self) -> String {
-        let Query { words, shift, level, cell } = self;
+        let Query { words, scramble, level, cell } = self;
         format!(
-            "{}\nlet answer = pair.query({shift:?}, {level}, {cell:?});\nassert_eq!(answer, {});",
+            "{}\n\
+             {}\n\
+             let answer = query_words(pair.words(), scramble, {level}, {cell:?});\n\
+             assert_eq!(answer, {});",
             text::let_pair(words),
+            text::let_bytes(scramble),
             text::answer(&self.expected())
         )
     }

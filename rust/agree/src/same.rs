@@ -1,7 +1,7 @@
-//! What the reference says, in the words of the bindings, and the arguments of both.
+//! What the reference says, in the words of the bindings, and the pair as each takes it.
 
 use reference::{pair, refusal};
-use vektrid::{Pair, Point, Refusal, Shift};
+use vektrid::{Pair, Point, Refusal};
 
 use crate::pairs::Words;
 
@@ -24,6 +24,8 @@ pub fn refusal(refusal: refusal::Refusal) -> Refusal {
         refusal::Refusal::Return => Refusal::ChainReturns,
         refusal::Refusal::VisitCount => Refusal::VisitCount,
         refusal::Refusal::Field => Refusal::Field,
+        refusal::Refusal::FlipBytes => Refusal::FlipBytes,
+        refusal::Refusal::FlipBit => Refusal::FlipBit,
     }
 }
 
@@ -31,10 +33,9 @@ pub fn point(point: pair::Point) -> Point {
     Point { x: point.x, y: point.y }
 }
 
-/// The pair and the shift as the reference takes them.
-pub fn arguments(words: &Words, shift: Shift) -> (pair::Pair, pair::Shift) {
-    let pair = pair::Pair::from_words(words).expect("these are 64 words");
-    (pair, pair::Shift { x: shift.x, y: shift.y })
+/// The pair as the reference takes it.
+pub fn pair(words: &Words) -> pair::Pair {
+    pair::Pair::from_words(words).expect("these are 64 words")
 }
 
 /// The pair as the bindings take it.

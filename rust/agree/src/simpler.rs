@@ -1,8 +1,9 @@
-//! Simpler numbers, shifts, pairs and files, for the search for a small case.
+//! Simpler numbers, scrambles, pairs and files, for the search for a small case.
 
 use vektrid::Shift;
 
 use crate::pairs::{standard, Words};
+use crate::scrambles::{Axis, Scrambled};
 
 /// Smaller numbers: 0 first, then nearer and nearer ones, and the number without one of its bits.
 pub fn simpler_number(number: u64) -> Vec<u64> {
@@ -22,9 +23,33 @@ pub fn simpler_signed(number: i32) -> Vec<i32> {
     magnitudes.map(|magnitude| magnitude as i32 * number.signum()).collect()
 }
 
-pub fn simpler_shift(shift: Shift) -> Vec<Shift> {
+fn simpler_shift(shift: Shift) -> Vec<Shift> {
     let xs = simpler_word(shift.x).into_iter().map(|x| Shift { x, ..shift });
     xs.chain(simpler_word(shift.y).into_iter().map(|y| Shift { y, ..shift })).collect()
+}
+
+/// Flips that change nothing first, then those without one of their bytes or bits. All have the same
+/// length, or a refusal under 18 would become one under 17; so accepted flips stay accepted.
+fn simpler_axis(axis: Axis) -> Vec<Axis> {
+    let bytes = axis.lent();
+    if bytes == Axis::NONE.lent() {
+        return Vec::new();
+    }
+    let ones = |at: &usize| bytes[*at] != 0;
+    let fewer_bytes = (0..bytes.len()).filter(ones).map(|at| axis.without(at, 0xFF));
+    let bits = (0..8 * bytes.len()).filter(|bit| bytes[bit / 8] >> (bit % 8) & 1 > 0);
+    let fewer_bits = bits.map(|bit| axis.without(bit / 8, 1 << (bit % 8)));
+    [Axis::NONE].into_iter().chain(fewer_bytes).chain(fewer_bits).collect()
+}
+
+/// Scrambles with simpler flips, or with a simpler shift.
+pub fn simpler_scramble(scramble: Scrambled) -> Vec<Scrambled> {
+    let mut simpler = Vec::new();
+    simpler.extend(simpler_axis(scramble.x).into_iter().map(|x| Scrambled { x, ..scramble }));
+    simpler.extend(simpler_axis(scramble.y).into_iter().map(|y| Scrambled { y, ..scramble }));
+    let shifts = simpler_shift(scramble.shift).into_iter();
+    simpler.extend(shifts.map(|shift| Scrambled { shift, ..scramble }));
+    simpler
 }
 
 /// Pairs nearer to the standard pair, or else with fewer ones. A word of the standard pair is
@@ -71,6 +96,8 @@ pub fn simpler_file(file: &[u8]) -> Vec<Vec<u8>> {
 #[cfg(test)]
 mod tests {
     use super::*;
+    use crate::scrambles;
+    use reference::trial::splitmix::Splitmix;
 
     #[test]
     fn simpler_numbers_are_smaller() {
@@ -104,6 +131,27 @@ mod tests {
         assert!(simpler.len() > 200);
         assert!(simpler.iter().all(|simpler| rank(simpler) < rank(&words)));
         assert!(simpler_pair(&standard()).is_empty());
+    }
+
+    /// No flips come first, then fewer bytes and bits; both measures of a scramble, the other length
+    /// and the bits, cannot fall for ever.
+    #[test]
+    fn simpler_scrambles_fall_in_rank() {
+        let rank = |axis: &Axis| {
+            let ones: u32 = axis.lent().iter().map(|byte| byte.count_ones()).sum();
+            ones + u32::from(axis.lent().len() != Axis::NONE.lent().len())
+        };
+        for number in 0..200 {
+            let scramble = scrambles::any(&mut Splitmix::of_case(1, number));
+            let whole = |Scrambled { shift, x, y }: Scrambled| {
+                u64::from(shift.x) + u64::from(shift.y) + u64::from(rank(&x) + rank(&y))
+            };
+            assert!(simpler_scramble(scramble)
+                .into_iter()
+                .all(|less| whole(less) < whole(scramble)));
+        }
+        let plain = Scrambled { shift: Shift::default(), x: Axis::NONE, y: Axis::NONE };
+        assert!(simpler_scramble(plain).is_empty());
     }
 
     #[test]

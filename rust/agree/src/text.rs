@@ -5,6 +5,7 @@ use std::fmt::Debug;
 use vektrid::{FileVisit, Refusal, Stopped};
 
 use crate::pairs::{standard, Words};
+use crate::scrambles::{Axis, Scrambled};
 
 /// `let pair = ..`, by the changes to the standard pair.
 pub fn let_pair(words: &Words) -> String {
@@ -23,6 +24,49 @@ pub fn let_pair(words: &Words) -> String {
     }
     lines.push("let pair = Pair::from_words(&words).unwrap();".to_string());
     lines.join("\n")
+}
+
+/// `let scramble = ..`, for calls that judge flips.
+pub fn let_bytes(scramble: &Scrambled) -> String {
+    let Scrambled { shift, x, y } = scramble;
+    if no_flips(scramble) {
+        return format!("let scramble = ScrambleBytes::from({shift:?});");
+    }
+    format!(
+        "let scramble = ScrambleBytes {{\n    \
+             shift: {shift:?},\n    \
+             flips_x: &{},\n    \
+             flips_y: &{},\n\
+         }};",
+        bytes(x),
+        bytes(y)
+    )
+}
+
+/// `let scramble = ..`, for the other calls.
+pub fn let_scramble(scramble: &Scrambled) -> String {
+    let Scrambled { shift, x, y } = scramble;
+    if no_flips(scramble) {
+        return format!("let scramble = Scramble::from({shift:?});");
+    }
+    format!(
+        "let flips = Flips::from_bytes(&{}, &{}).unwrap();\n\
+         let scramble = Scramble {{ shift: {shift:?}, flips }};",
+        bytes(x),
+        bytes(y)
+    )
+}
+
+fn no_flips(scramble: &Scrambled) -> bool {
+    scramble.x.lent() == Axis::NONE.lent() && scramble.y.lent() == Axis::NONE.lent()
+}
+
+/// The bytes of an axis as an array.
+fn bytes(axis: &Axis) -> String {
+    match axis.lent() {
+        bytes if bytes.iter().all(|&byte| byte == 0) => format!("[0; {}]", bytes.len()),
+        bytes => format!("{bytes:?}"),
+    }
 }
 
 /// An answer with the full name of its refusal.
@@ -59,6 +103,7 @@ pub fn link(link: &Result<(), Stopped>) -> String {
 #[cfg(test)]
 mod tests {
     use super::*;
+    use vektrid::Shift;
 
     #[test]
     fn pairs_are_told_by_their_changes() {
@@ -69,6 +114,25 @@ mod tests {
                     words[33] = 0x00000007;\n\
                     let pair = Pair::from_words(&words).unwrap();";
         assert_eq!(let_pair(&words), text);
+    }
+
+    #[test]
+    fn scrambles_are_told_by_their_bytes() {
+        let shift = Shift { x: 1, y: 2 };
+        let plain = Scrambled { shift, x: Axis::NONE, y: Axis::NONE };
+        let text = "let scramble = ScrambleBytes::from(Shift { x: 1, y: 2 });";
+        assert_eq!(let_bytes(&plain), text);
+        assert_eq!(let_scramble(&plain), "let scramble = Scramble::from(Shift { x: 1, y: 2 });");
+        let flipped = Scrambled { x: Axis::of(&[7, 0, 9]), ..plain };
+        let text = "let scramble = ScrambleBytes {\n    \
+                        shift: Shift { x: 1, y: 2 },\n    \
+                        flips_x: &[7, 0, 9],\n    \
+                        flips_y: &[0; 32],\n\
+                    };";
+        assert_eq!(let_bytes(&flipped), text);
+        let text = "let flips = Flips::from_bytes(&[7, 0, 9], &[0; 32]).unwrap();\n\
+                    let scramble = Scramble { shift: Shift { x: 1, y: 2 }, flips };";
+        assert_eq!(let_scramble(&flipped), text);
     }
 
     #[test]

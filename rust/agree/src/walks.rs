@@ -2,19 +2,20 @@
 
 use reference::trial::splitmix::Splitmix;
 use reference::walk::{self, Step};
-use vektrid::{Shift, Visit, Walk};
+use vektrid::{Refusal, Visit, Walk};
 
 use crate::case::Case;
 use crate::limits::{wild, wild_count};
 use crate::pairs::{self, Words};
 use crate::points::{bits, expected_bits, Bits};
-use crate::simpler::{simpler_number, simpler_pair, simpler_shift, simpler_word};
+use crate::scrambles::{self, Scrambled};
+use crate::simpler::{simpler_number, simpler_pair, simpler_scramble, simpler_word};
 use crate::{same, text};
 
 #[derive(Clone, Copy)]
 pub struct Steps {
     words: Words,
-    shift: Shift,
+    scramble: Scrambled,
     walk: Walk,
     steps: u32,
 }
@@ -22,14 +23,21 @@ pub struct Steps {
 /// What a step gives.
 #[derive(Clone, Copy, Debug, PartialEq)]
 pub struct Stepped {
-    words: (Option<Visit>, Walk),
-    singles: (Option<(u32, Bits)>, Walk),
+    words: Result<(Option<Visit>, Walk), Refusal>,
+    singles: Result<(Option<(u32, Bits)>, Walk), Refusal>,
+}
+
+impl Stepped {
+    /// The walk after the step; a refused one leaves it as it was.
+    fn after(&self, before: Walk) -> Walk {
+        self.words.map_or(before, |(_, after)| after)
+    }
 }
 
 impl Case for Steps {
     const NAME: &'static str = "walk stepped";
     const COUNT: u64 = 60_000;
-    const OUTCOMES: &'static [u32] = &[0];
+    const OUTCOMES: &'static [u32] = &[0, 17, 18];
     type Answer = Vec<Stepped>;
 
     fn make(random: &mut Splitmix, number: u64) -> Steps {
@@ -42,37 +50,39 @@ impl Case for Steps {
             1 => wild_count(random),
             _ => u64::from(random.below(40)),
         };
-        let (words, shift) = (pairs::of_turn(random, number), pairs::shift(random));
-        Steps { words, shift, walk: Walk { next, left }, steps: 1 + random.below(40) }
+        let (words, scramble) = (pairs::of_turn(random, number), scrambles::any(random));
+        Steps { words, scramble, walk: Walk { next, left }, steps: 1 + random.below(40) }
     }
 
     fn expected(&self) -> Vec<Stepped> {
-        let (pair, shift) = same::arguments(&self.words, self.shift);
-        self.all(|walk| {
-            let (step, after) = walk::Walk { next: walk.next, left: walk.left }.step(&pair, shift);
+        let (pair, scramble) = (same::pair(&self.words), self.scramble.reference());
+        self.all(|Walk { next, left }| {
+            let (step, after) = walk::Walk { next, left }.step(&pair, scramble);
             let after = Walk { next: after.next, left: after.left };
-            match step {
-                Step::Ended => Stepped { words: (None, after), singles: (None, after) },
-                Step::Visit { index, point } => {
+            match step.map_err(same::refusal) {
+                Ok(Step::Ended) => Stepped { words: Ok((None, after)), singles: Ok((None, after)) },
+                Ok(Step::Visit { index, point }) => {
                     let visit = Visit { index, point: same::point(point) };
                     let singles = (index, expected_bits(point));
-                    Stepped { words: (Some(visit), after), singles: (Some(singles), after) }
+                    Stepped { words: Ok((Some(visit), after)), singles: Ok((Some(singles), after)) }
                 }
+                Err(refusal) => Stepped { words: Err(refusal), singles: Err(refusal) },
             }
         })
     }
 
     fn given(&self) -> Vec<Stepped> {
-        let pair = same::bound(&self.words);
+        let (words, scramble) = (&self.words, self.scramble.bytes());
         self.all(|walk| {
-            let (visit, after) = walk.step_singles(&pair, self.shift);
-            let singles = (visit.map(|visit| (visit.index, bits(visit.singles))), after);
-            Stepped { words: walk.step(&pair, self.shift), singles }
+            let singles = walk.step_singles_words(words, scramble).map(|(visit, after)| {
+                (visit.map(|visit| (visit.index, bits(visit.singles))), after)
+            });
+            Stepped { words: walk.step_words(words, scramble), singles }
         })
     }
 
-    fn outcome(_: &Vec<Stepped>) -> u32 {
-        0
+    fn outcome(steps: &Vec<Stepped>) -> u32 {
+        same::outcome(&steps[0].words)
     }
 
     fn simpler(&self) -> Vec<Steps> {
@@ -81,26 +91,30 @@ impl Case for Steps {
         let starts = simpler_word(next).into_iter().map(|next| Walk { next, left });
         let counts = simpler_number(left).into_iter().map(|left| Walk { next, left });
         simpler.extend(starts.chain(counts).map(|walk| Steps { walk, ..*self }));
-        simpler.extend(simpler_shift(self.shift).into_iter().map(|shift| Steps { shift, ..*self }));
+        let scrambles = simpler_scramble(self.scramble).into_iter();
+        simpler.extend(scrambles.map(|scramble| Steps { scramble, ..*self }));
         simpler.extend(simpler_pair(&self.words).into_iter().map(|words| Steps { words, ..*self }));
         simpler
     }
 
     fn test(&self) -> String {
-        let (shift, mut walk) = (self.shift, self.walk);
+        let mut walk = self.walk;
         let mut lines = vec![
             text::let_pair(&self.words),
-            format!("let shift = {shift:?};"),
-            "let bits = |one: Singles| (one.x.to_bits(), one.y.to_bits());".to_string(),
+            text::let_bytes(&self.scramble),
+            "let bits = |one: SinglesVisit| (one.index, (one.singles.x.to_bits(), \
+             one.singles.y.to_bits()));"
+                .to_string(),
         ];
-        for Stepped { words, singles } in self.expected() {
+        for step in self.expected() {
             lines.push(format!(
-                "assert_eq!({walk:?}.step(&pair, shift), {words:?});\n\
-                 let (visit, after) = {walk:?}.step_singles(&pair, shift);\n\
-                 let visit = visit.map(|visit| (visit.index, bits(visit.singles)));\n\
-                 assert_eq!((visit, after), {singles:?});"
+                "assert_eq!({walk:?}.step_words(pair.words(), scramble), {});\n\
+                 let step = {walk:?}.step_singles_words(pair.words(), scramble);\n\
+                 assert_eq!(step.map(|(visit, after)| (visit.map(bits), after)), {});",
+                text::answer(&step.words),
+                text::answer(&step.singles)
             ));
-            walk = words.1;
+            walk = step.after(walk);
         }
         lines.join("\n")
     }
@@ -113,7 +127,7 @@ impl Steps {
         let mut all = Vec::new();
         for _ in 0..self.steps {
             let stepped = step(walk);
-            walk = stepped.words.1;
+            walk = stepped.after(walk);
             all.push(stepped);
         }
         all
@@ -124,7 +138,7 @@ impl Steps {
         if self.steps == 1 {
             return Vec::new();
         }
-        let behind = self.expected()[0].words.1;
+        let behind = self.expected()[0].after(self.walk);
         vec![Steps { steps: 1, ..*self }, Steps { walk: behind, steps: self.steps - 1, ..*self }]
     }
 }

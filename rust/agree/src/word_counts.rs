@@ -3,12 +3,12 @@
 
 use reference::pair::Pair;
 use reference::trial::splitmix::Splitmix;
-use vektrid::{Cell, Cells, Refusal, Shift, Walk};
+use vektrid::{Cell, Cells, Refusal, Walk};
 
 use crate::case::Case;
 use crate::limits::{wild, wild_count};
-use crate::pairs;
-use crate::same;
+use crate::scrambles::{self, Scrambled};
+use crate::{same, text};
 
 const LENGTHS: [usize; 12] = [0, 1, 2, 31, 32, 33, 62, 63, 65, 96, 104, 128];
 
@@ -18,7 +18,7 @@ const MARK: u32 = 0xDEAD_BEEF;
 #[derive(Clone, Copy)]
 pub struct WordCount {
     length: usize,
-    shift: Shift,
+    scramble: Scrambled,
     level: u32,
     walk: Walk,
     cell: Cell,
@@ -43,7 +43,7 @@ impl Case for WordCount {
         let (m, a, column) = (wild(random), wild(random), wild(random));
         WordCount {
             length: LENGTHS[number as usize % LENGTHS.len()],
-            shift: pairs::shift(random),
+            scramble: scrambles::any(random),
             level: wild(random),
             walk: Walk { next: wild(random), left: wild_count(random) },
             cell: Cell { m, a, column, row: wild(random), block: wild(random) },
@@ -58,8 +58,8 @@ impl Case for WordCount {
     }
 
     fn given(&self) -> Answer {
-        let WordCount { shift, level, walk, cell, .. } = *self;
-        let words = self.words();
+        let WordCount { ref scramble, level, walk, cell, .. } = *self;
+        let (words, scramble) = (self.words(), scramble.bytes());
         let mut standard = vec![MARK; self.length];
         let (mut filled, mut overviewed) = (([MARK; 3], [MARK; 4]), [MARK; 2]);
         let Cell { m, a, column, row, block } = cell;
@@ -67,13 +67,13 @@ impl Case for WordCount {
         let calls = [
             vektrid::standard_words(&mut standard),
             vektrid::check_words(&words, level),
-            vektrid::point_words(&words, shift, walk.next).map(|_| ()),
-            vektrid::point_singles_words(&words, shift, walk.next).map(|_| ()),
-            vektrid::fill_words(&words, shift, walk.next, &mut filled.0, &mut filled.1),
-            walk.step_words(&words, shift).map(|_| ()),
-            walk.step_singles_words(&words, shift).map(|_| ()),
-            vektrid::query_words(&words, shift, level, cell).map(|_| ()),
-            vektrid::overview_words(&words, shift, level, cells, &mut overviewed),
+            vektrid::point_words(&words, scramble, walk.next).map(|_| ()),
+            vektrid::point_singles_words(&words, scramble, walk.next).map(|_| ()),
+            vektrid::fill_words(&words, scramble, walk.next, &mut filled.0, &mut filled.1),
+            walk.step_words(&words, scramble).map(|_| ()),
+            walk.step_singles_words(&words, scramble).map(|_| ()),
+            vektrid::query_words(&words, scramble, level, cell).map(|_| ()),
+            vektrid::overview_words(&words, scramble, level, cells, &mut overviewed),
         ];
         Answer { calls, standard, filled, overviewed }
     }
@@ -88,28 +88,30 @@ impl Case for WordCount {
     }
 
     fn test(&self) -> String {
-        let WordCount { length, shift, level, walk, cell } = self;
+        let WordCount { length, scramble, level, walk, cell } = self;
         let (index, Cell { m, a, column, row, block }) = (walk.next, cell);
         let refused = "Some(Refusal::WordCount)";
         format!(
-            "let mut words = [{MARK}; {length}];\n\
-             let (mut xs, mut ys, shift) = ([{MARK}; 3], [{MARK}; 4], {shift:?});\n\
+            "{}\n\
+             let mut words = [{MARK}; {length}];\n\
+             let (mut xs, mut ys) = ([{MARK}; 3], [{MARK}; 4]);\n\
              assert_eq!(standard_words(&mut words).err(), {refused});\n\
              assert_eq!(check_words(&words, {level}).err(), {refused});\n\
-             assert_eq!(point_words(&words, shift, {index}).err(), {refused});\n\
-             assert_eq!(point_singles_words(&words, shift, {index}).err(), {refused});\n\
-             let filled = fill_words(&words, shift, {index}, &mut xs, &mut ys);\n\
+             assert_eq!(point_words(&words, scramble, {index}).err(), {refused});\n\
+             assert_eq!(point_singles_words(&words, scramble, {index}).err(), {refused});\n\
+             let filled = fill_words(&words, scramble, {index}, &mut xs, &mut ys);\n\
              assert_eq!(filled.err(), {refused});\n\
-             assert_eq!({walk:?}.step_words(&words, shift).err(), {refused});\n\
-             assert_eq!({walk:?}.step_singles_words(&words, shift).err(), {refused});\n\
-             let answer = query_words(&words, shift, {level}, {cell:?});\n\
+             assert_eq!({walk:?}.step_words(&words, scramble).err(), {refused});\n\
+             assert_eq!({walk:?}.step_singles_words(&words, scramble).err(), {refused});\n\
+             let answer = query_words(&words, scramble, {level}, {cell:?});\n\
              assert_eq!(answer.err(), {refused});\n\
              let (columns, rows, mut answers) = (&[{column}], &[{row}; 3], [{MARK}; 2]);\n\
              let cells = Cells {{ m: {m}, a: {a}, columns, rows, block: {block} }};\n\
-             let answer = overview_words(&words, shift, {level}, cells, &mut answers);\n\
+             let answer = overview_words(&words, scramble, {level}, cells, &mut answers);\n\
              assert_eq!(answer.err(), {refused});\n\
              assert_eq!((words, xs, ys), ([{MARK}; {length}], [{MARK}; 3], [{MARK}; 4]));\n\
-             assert_eq!(answers, [{MARK}; 2]);"
+             assert_eq!(answers, [{MARK}; 2]);",
+            text::let_bytes(scramble)
         )
     }
 }

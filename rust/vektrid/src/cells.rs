@@ -2,9 +2,9 @@
 
 use crate::library;
 use crate::pair::Pair;
-use crate::points::Shift;
 use crate::raw;
 use crate::refusal::{judged_net, Refusal};
+use crate::scramble::{Scramble, ScrambleBytes};
 
 /// An elementary interval (cell) of the shape (m, a), and the block to look in. The shape has 2^a
 /// columns and 2^(m-a) rows; block k has the indexes k × 2^m to (k+1) × 2^m - 1.
@@ -40,7 +40,8 @@ pub struct Cells<'a> {
 
 impl Pair {
     /// The one index of the block whose point lies in the cell, or the first refusal that applies,
-    /// in the order 2, 4, 5, 6, 7, 3. The pair need not be checked before.
+    /// in the order 2, 17, 18, 4, 5, 6, 7, 3. The flips of a scramble are judged already, so that only
+    /// [`query_words`] gives 17 and 18. The pair need not be checked before.
     ///
     /// ```
     /// use vektrid::{Cell, Pair, Refusal, Shift};
@@ -51,14 +52,21 @@ impl Pair {
     /// let outside = Cell { column: 2, ..cell };
     /// assert_eq!(Pair::standard().query(Shift::default(), 32, outside), Err(Refusal::Cell));
     /// ```
-    pub fn query(&self, shift: Shift, level: u32, cell: Cell) -> Result<u32, Refusal> {
-        query_words(self.words(), shift, level, cell)
+    pub fn query(
+        &self,
+        scramble: impl Into<Scramble>,
+        level: u32,
+        cell: Cell,
+    ) -> Result<u32, Refusal> {
+        let scramble = scramble.into();
+        query_words(self.words(), &scramble, level, cell)
     }
 
     /// Writes to `answers[i]` what [`Pair::query`] gives for cell number i, for all cells in one call.
-    /// Refused under the first that applies, and then nothing is written, in the order 8, 2, 4, 5, then
-    /// 6 of the first cell, 7, 3, then 6 of the later cells. Refusal 8 is given unless there are as many
-    /// rows and as many answers as columns. Without cells, all of these but 6 are judged all the same.
+    /// Refused under the first that applies, and then nothing is written, in the order 8, 2, 17, 18, 4,
+    /// 5, then 6 of the first cell, 7, 3, then 6 of the later cells; only [`overview_words`] gives 17 and
+    /// 18. Refusal 8 is given unless there are as many rows and as many answers as columns. Without
+    /// cells, all of these but 6 are judged all the same.
     ///
     /// ```
     /// use vektrid::{Cells, Pair, Refusal, Shift};
@@ -77,26 +85,37 @@ impl Pair {
     /// ```
     pub fn overview(
         &self,
-        shift: Shift,
+        scramble: impl Into<Scramble>,
         level: u32,
         cells: Cells<'_>,
         answers: &mut [u32],
     ) -> Result<(), Refusal> {
-        overview_words(self.words(), shift, level, cells, answers)
+        let scramble = scramble.into();
+        overview_words(self.words(), &scramble, level, cells, answers)
     }
 }
 
-/// [`Pair::query`] for any number of words: refusal 1 comes before the others.
-pub fn query_words(words: &[u32], shift: Shift, level: u32, cell: Cell) -> Result<u32, Refusal> {
+/// [`Pair::query`] for any number of words and bytes: refusal 1 comes before the others.
+pub fn query_words<'a>(
+    words: &[u32],
+    scramble: impl Into<ScrambleBytes<'a>>,
+    level: u32,
+    cell: Cell,
+) -> Result<u32, Refusal> {
+    let ScrambleBytes { shift, flips_x, flips_y } = scramble.into();
     let Cell { m, a, column, row, block } = cell;
     let (mut index, mut j) = (0, 0);
-    // SAFETY: the words are a lent slice with its length; the others are two variables.
+    // SAFETY: three lent slices with their lengths, and two variables.
     let number = library::call(|| unsafe {
         raw::vektrid_query(
             words.as_ptr(),
             words.len(),
             shift.x,
             shift.y,
+            flips_x.as_ptr(),
+            flips_x.len(),
+            flips_y.as_ptr(),
+            flips_y.len(),
             level,
             m,
             a,
@@ -110,17 +129,18 @@ pub fn query_words(words: &[u32], shift: Shift, level: u32, cell: Cell) -> Resul
     judged_net(number, m, a, j).map(|()| index)
 }
 
-/// [`Pair::overview`] for any number of words: refusal 1 comes before the others.
-pub fn overview_words(
+/// [`Pair::overview`] for any number of words and bytes: refusal 1 comes before the others.
+pub fn overview_words<'a>(
     words: &[u32],
-    shift: Shift,
+    scramble: impl Into<ScrambleBytes<'a>>,
     level: u32,
     cells: Cells<'_>,
     answers: &mut [u32],
 ) -> Result<(), Refusal> {
+    let ScrambleBytes { shift, flips_x, flips_y } = scramble.into();
     let Cells { m, a, columns, rows, block } = cells;
     let mut j = 0;
-    // SAFETY: four lent slices with their lengths, of which the one that is written is lent to us
+    // SAFETY: six lent slices with their lengths, of which the one that is written is lent to us
     // alone, and a variable.
     let number = library::call(|| unsafe {
         raw::vektrid_overview(
@@ -128,6 +148,10 @@ pub fn overview_words(
             words.len(),
             shift.x,
             shift.y,
+            flips_x.as_ptr(),
+            flips_x.len(),
+            flips_y.as_ptr(),
+            flips_y.len(),
             level,
             m,
             a,

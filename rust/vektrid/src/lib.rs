@@ -25,16 +25,17 @@
 //! repository says where each of them stands.
 //!
 //! Not proved are the boundary, that is the C declarations in [`raw`] and how the compilers pass
-//! arguments, and this crate. It does four things: it compares the library's number with [`ABI`]
+//! arguments, and this crate. It does five things: it compares the library's number with [`ABI`]
 //! before the first call, and panics where they differ; it hands over lent slices with their
-//! lengths; it gives refusals their names; and it copies answers into structures. `rust/bindings`
-//! tests it and compares its answers with a planner in Rust that was written apart.
+//! lengths; it gives refusals their names; it copies answers into structures; and it makes the
+//! scramble that a seed names. `rust/bindings` tests it and compares its answers with a planner in
+//! Rust that was written apart.
 //!
 //! # Words
 //!
 //! Comments use the words of the literature, and where the planner has a word of its own it stands
-//! behind in brackets: two generator matrices (a pair), digital shift (scramble), elementary
-//! interval (cell), cursor over visits (walk).
+//! behind in brackets: two generator matrices (a pair), digital shift (scramble words), Owen's
+//! nested scrambling (flips), elementary interval (cell), cursor over visits (walk).
 
 #![deny(missing_docs)]
 
@@ -47,6 +48,7 @@ mod points;
 pub mod raw;
 mod refusal;
 mod region_file;
+mod scramble;
 mod sheet;
 mod stage;
 mod unit;
@@ -57,9 +59,10 @@ pub use library::ABI;
 pub use listing::{listing, Cursor, Listing};
 pub use pair::{check_words, standard_words, Pair};
 pub use pieces::{Pieces, LONGEST_LINE};
-pub use points::{fill_words, point_words, standard_point, Point, Shift};
+pub use points::{fill_words, point_words, standard_point, standard_point_bytes, Point};
 pub use refusal::Refusal;
 pub use region_file::{judge, judge_link, visits, FileVisit, FileWalk, Stopped, Visits};
+pub use scramble::{Flips, Scramble, ScrambleBytes, Shift};
 pub use sheet::{sheet, sheet_pages, Sheet, SheetCursor, SheetPages, PAGE};
 pub use stage::{Field, Position, Region};
 pub use unit::{double, point_singles_words, single, Singles};

@@ -10,7 +10,7 @@ use crate::raw;
 /// take other arguments. So the first call of the library asks it for its number and panics, in
 /// words, where that is another one. Nothing of the library has run by then, and no input can bring
 /// it about: which archive is linked is settled when the program is built.
-pub const ABI: u32 = 4;
+pub const ABI: u32 = 5;
 
 /// Whether the number has been compared. Every thread would find the same, so it does not matter
 /// which of them sees this when.

@@ -58,10 +58,14 @@ pub enum Refusal {
     VisitCount,
     /// 16: the reader's field is wider or taller than a region.
     Field,
+    /// 17: the flips of an axis are not 32 bytes.
+    FlipBytes,
+    /// 18: flip bit 255 of an axis is set.
+    FlipBit,
 }
 
 /// The refusals without values.
-const PLAIN: [Refusal; 15] = [
+const PLAIN: [Refusal; 17] = [
     Refusal::WordCount,
     Refusal::Level,
     Refusal::Size,
@@ -77,6 +81,8 @@ const PLAIN: [Refusal; 15] = [
     Refusal::ChainReturns,
     Refusal::VisitCount,
     Refusal::Field,
+    Refusal::FlipBytes,
+    Refusal::FlipBit,
 ];
 
 /// What a call without refusal 3 answered.
@@ -101,7 +107,7 @@ pub(crate) fn judged_net(number: u32, m: u32, a: u32, j: u32) -> Result<(), Refu
 }
 
 impl Refusal {
-    /// The number in the refusal table, 1 to 16.
+    /// The number in the refusal table, 1 to 18.
     pub fn number(self) -> u32 {
         match self {
             Refusal::WordCount => 1,
@@ -120,6 +126,8 @@ impl Refusal {
             Refusal::ChainReturns => 14,
             Refusal::VisitCount => 15,
             Refusal::Field => 16,
+            Refusal::FlipBytes => 17,
+            Refusal::FlipBit => 18,
         }
     }
 
@@ -143,6 +151,8 @@ impl Refusal {
             Refusal::ChainReturns => "the chain returns to a record",
             Refusal::VisitCount => "a record has more than 4,096 visits",
             Refusal::Field => "the reader's field is wider or taller than a region",
+            Refusal::FlipBytes => "the flips of an axis are not 32 bytes",
+            Refusal::FlipBit => "flip bit 255 of an axis is set",
         }
     }
 }

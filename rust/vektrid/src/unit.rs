@@ -2,9 +2,10 @@
 
 use crate::library;
 use crate::pair::Pair;
-use crate::points::Shift;
+use crate::points::JUDGED;
 use crate::raw;
 use crate::refusal::{judged, Refusal};
+use crate::scramble::{Scramble, ScrambleBytes};
 
 /// The two coordinates of a visit as singles.
 #[derive(Clone, Copy, Debug, PartialEq)]
@@ -46,22 +47,32 @@ impl Pair {
     /// let singles = Pair::standard().point_singles(Shift::default(), 3);
     /// assert_eq!(singles, Singles { x: 0.75, y: 0.25 });
     /// ```
-    pub fn point_singles(&self, shift: Shift, index: u32) -> Singles {
-        point_singles_words(self.words(), shift, index).expect("a pair has 64 words")
+    pub fn point_singles(&self, scramble: impl Into<Scramble>, index: u32) -> Singles {
+        let scramble = scramble.into();
+        point_singles_words(self.words(), &scramble, index).expect(JUDGED)
     }
 }
 
-/// [`Pair::point_singles`] for any number of words. Refused under 1.
-pub fn point_singles_words(words: &[u32], shift: Shift, index: u32) -> Result<Singles, Refusal> {
+/// [`Pair::point_singles`] for any number of words and bytes. Refused under 1, 17 or 18, in this
+/// order.
+pub fn point_singles_words<'a>(
+    words: &[u32],
+    scramble: impl Into<ScrambleBytes<'a>>,
+    index: u32,
+) -> Result<Singles, Refusal> {
+    let ScrambleBytes { shift, flips_x, flips_y } = scramble.into();
     let mut singles = Singles { x: 0.0, y: 0.0 };
-    // SAFETY: the words are a lent slice with its length; the others are two fields of one
-    // variable.
+    // SAFETY: three lent slices with their lengths, and two fields of one variable.
     let number = library::call(|| unsafe {
         raw::vektrid_point_singles(
             words.as_ptr(),
             words.len(),
             shift.x,
             shift.y,
+            flips_x.as_ptr(),
+            flips_x.len(),
+            flips_y.as_ptr(),
+            flips_y.len(),
             index,
             &mut singles.x,
             &mut singles.y,

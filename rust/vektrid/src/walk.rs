@@ -4,9 +4,10 @@ use std::iter::FusedIterator;
 
 use crate::library;
 use crate::pair::Pair;
-use crate::points::{Point, Shift};
+use crate::points::{Point, JUDGED};
 use crate::raw;
 use crate::refusal::{judged, Refusal};
+use crate::scramble::{Scramble, ScrambleBytes};
 use crate::unit::Singles;
 
 /// A cursor over visits (a walk). The fields are open: a walk made by hand is stepped too.
@@ -60,13 +61,19 @@ impl Walk {
     }
 
     /// The next visit, or none where the walk has ended, and the walk after the step.
-    pub fn step(self, pair: &Pair, shift: Shift) -> (Option<Visit>, Walk) {
-        self.step_words(pair.words(), shift).expect("a pair has 64 words")
+    pub fn step(self, pair: &Pair, scramble: impl Into<Scramble>) -> (Option<Visit>, Walk) {
+        let scramble = scramble.into();
+        self.step_words(pair.words(), &scramble).expect(JUDGED)
     }
 
     /// The same with the point as two singles.
-    pub fn step_singles(self, pair: &Pair, shift: Shift) -> (Option<SinglesVisit>, Walk) {
-        self.step_singles_words(pair.words(), shift).expect("a pair has 64 words")
+    pub fn step_singles(
+        self,
+        pair: &Pair,
+        scramble: impl Into<Scramble>,
+    ) -> (Option<SinglesVisit>, Walk) {
+        let scramble = scramble.into();
+        self.step_singles_words(pair.words(), &scramble).expect(JUDGED)
     }
 
     /// The visits that are left, one for each step.
@@ -80,25 +87,31 @@ impl Walk {
     /// assert_eq!(indexes, [4_294_967_293, 4_294_967_294, 4_294_967_295]);
     /// # Ok::<(), Refusal>(())
     /// ```
-    pub fn steps(self, pair: &Pair, shift: Shift) -> Steps<'_> {
-        Steps { walk: self, pair, shift }
+    pub fn steps(self, pair: &Pair, scramble: impl Into<Scramble>) -> Steps<'_> {
+        Steps { walk: self, pair, scramble: scramble.into() }
     }
 
-    /// A step for any number of words. Refused under 1.
-    pub fn step_words(
+    /// A step for any number of words and bytes. Refused under 1, 17 or 18, in this order, also where
+    /// the walk has ended.
+    pub fn step_words<'a>(
         mut self,
         words: &[u32],
-        shift: Shift,
+        scramble: impl Into<ScrambleBytes<'a>>,
     ) -> Result<(Option<Visit>, Walk), Refusal> {
+        let ScrambleBytes { shift, flips_x, flips_y } = scramble.into();
         let (mut given, mut index, mut point) = (0, 0, Point { x: 0, y: 0 });
-        // SAFETY: the words are a lent slice with its length; the others are variables and fields,
-        // all apart.
+        // SAFETY: three lent slices with their lengths; the others are variables and fields, all
+        // apart.
         judged(library::call(|| unsafe {
             raw::vektrid_walk_step(
                 words.as_ptr(),
                 words.len(),
                 shift.x,
                 shift.y,
+                flips_x.as_ptr(),
+                flips_x.len(),
+                flips_y.as_ptr(),
+                flips_y.len(),
                 &mut self.next,
                 &mut self.left,
                 &mut given,
@@ -110,12 +123,13 @@ impl Walk {
         Ok(((given != 0).then_some(Visit { index, point }), self))
     }
 
-    /// A step with two singles for any number of words. Refused under 1.
-    pub fn step_singles_words(
+    /// A step with two singles for any number of words and bytes. Refused as [`Walk::step_words`] is.
+    pub fn step_singles_words<'a>(
         mut self,
         words: &[u32],
-        shift: Shift,
+        scramble: impl Into<ScrambleBytes<'a>>,
     ) -> Result<(Option<SinglesVisit>, Walk), Refusal> {
+        let ScrambleBytes { shift, flips_x, flips_y } = scramble.into();
         let (mut given, mut index, mut singles) = (0, 0, Singles { x: 0.0, y: 0.0 });
         // SAFETY: as in `step_words`.
         judged(library::call(|| unsafe {
@@ -124,6 +138,10 @@ impl Walk {
                 words.len(),
                 shift.x,
                 shift.y,
+                flips_x.as_ptr(),
+                flips_x.len(),
+                flips_y.as_ptr(),
+                flips_y.len(),
                 &mut self.next,
                 &mut self.left,
                 &mut given,
@@ -141,7 +159,7 @@ impl Walk {
 pub struct Steps<'a> {
     walk: Walk,
     pair: &'a Pair,
-    shift: Shift,
+    scramble: Scramble,
 }
 
 impl Steps<'_> {
@@ -155,7 +173,7 @@ impl Iterator for Steps<'_> {
     type Item = Visit;
 
     fn next(&mut self) -> Option<Visit> {
-        let (visit, after) = self.walk.step(self.pair, self.shift);
+        let (visit, after) = self.walk.step(self.pair, self.scramble);
         self.walk = after;
         visit
     }

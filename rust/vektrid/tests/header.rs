@@ -5,7 +5,7 @@
 use std::mem::size_of;
 
 use vektrid::raw::{self, Cursor, FileWalk, SheetCursor};
-use vektrid::{Refusal, ABI};
+use vektrid::{Flips, Refusal, ABI};
 
 const HEADER: &str = include_str!(concat!(env!("CARGO_MANIFEST_DIR"), "/../../include/vektrid.h"));
 const RAW: &str = include_str!(concat!(env!("CARGO_MANIFEST_DIR"), "/src/raw.rs"));
@@ -102,6 +102,12 @@ fn structures_have_the_words_of_the_header() {
 }
 
 #[test]
+fn flips_have_the_bytes_of_the_header() {
+    let array = format!("static const uint8_t vektrid_no_flips[{}] = {{0}};", Flips::BYTES);
+    assert!(header().contains(&array));
+}
+
+#[test]
 fn refusals_have_the_names_and_numbers_of_the_header() {
     let refusals = [
         Refusal::WordCount,
@@ -120,6 +126,8 @@ fn refusals_have_the_names_and_numbers_of_the_header() {
         Refusal::ChainReturns,
         Refusal::VisitCount,
         Refusal::Field,
+        Refusal::FlipBytes,
+        Refusal::FlipBit,
     ];
     let header = header();
     let constants = header.lines().filter_map(|line| line.trim().strip_prefix("VEKTRID_"));

@@ -2,7 +2,7 @@
 
 use vektrid::{
     check_words, double, overview_words, query_words, single, standard_point, Cell, Cells, Field,
-    Pair, Point, Position, Refusal, Region, Shift, Singles, SinglesVisit, Visit, Walk,
+    Pair, Point, Position, Refusal, Region, Scramble, Shift, Singles, SinglesVisit, Visit, Walk,
 };
 
 const NO_SHIFT: Shift = Shift { x: 0, y: 0 };
@@ -82,20 +82,20 @@ fn overviews_of_the_standard_pair() {
     }
 }
 
-/// Every cell of every shape up to m = 6, shifted and in other blocks than the first.
+/// Every cell of every shape up to m = 6, scrambled and in other blocks than the first.
 #[test]
 fn overviews_are_queries() {
-    let (pair, shift) = (Pair::standard(), Shift { x: 0x1234_5678, y: 0x9ABC_DEF0 });
+    let (pair, scramble) = (Pair::standard(), Scramble::random(14));
     for m in 0..=6 {
         for (a, block) in (0..=m).flat_map(|a| [(a, 0), (a, 5), (a, u32::MAX >> m)]) {
             let columns: Vec<u32> = (0..1 << m).map(|place| place >> (m - a)).collect();
             let rows: Vec<u32> = (0..1 << m).map(|place| place & ((1 << (m - a)) - 1)).collect();
             let cells = Cells { m, a, columns: &columns, rows: &rows, block };
             let mut answers = vec![0; 1 << m];
-            assert_eq!(pair.overview(shift, 6, cells, &mut answers), Ok(()));
+            assert_eq!(pair.overview(scramble, 6, cells, &mut answers), Ok(()));
             for ((column, row), index) in columns.into_iter().zip(rows).zip(answers) {
                 let cell = Cell { m, a, column, row, block };
-                assert_eq!(pair.query(shift, 6, cell), Ok(index));
+                assert_eq!(pair.query(scramble, 6, cell), Ok(index));
             }
         }
     }

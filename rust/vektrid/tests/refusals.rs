@@ -2,14 +2,15 @@
 
 mod common;
 
+use common::flips::{EIGHTEEN, REFUSED, SEVENTEEN};
 use common::{
     changed, example, example_under, example_with, COUNT, FIELD_HEIGHT, FIELD_WIDTH, LEVEL, NEXT,
     RESERVED, WIDTH,
 };
 use vektrid::{
     check_words, fill_words, judge, judge_link, overview_words, point_singles_words, point_words,
-    query_words, standard_words, visits, Cell, Cells, Field, Pair, Refusal, Region, Shift, Stopped,
-    Walk,
+    query_words, standard_point_bytes, standard_words, visits, Cell, Cells, Field, Flips, Pair,
+    Refusal, Region, ScrambleBytes, Shift, Stopped, Walk,
 };
 
 const NO_SHIFT: Shift = Shift { x: 0, y: 0 };
@@ -58,13 +59,18 @@ fn one_for_63_words_in_every_call() {
 fn one_comes_first() {
     let words = [0; 63];
     assert_eq!(check_words(&words, 33), Err(Refusal::WordCount));
-    let worst = fill_words(&words, NO_SHIFT, u32::MAX, &mut [0; 4], &mut [0; 5]);
-    assert_eq!(worst, Err(Refusal::WordCount));
     let cell = Cell { m: 33, a: 34, column: 1, row: 1, block: 1 };
-    assert_eq!(query_words(&words, NO_SHIFT, 0, cell), Err(Refusal::WordCount));
     let cells = Cells { m: 33, a: 34, columns: &[1], rows: &[1, 1], block: 1 };
-    let worst = overview_words(&words, NO_SHIFT, 0, cells, &mut [0; 3]);
-    assert_eq!(worst, Err(Refusal::WordCount));
+    for bad in [SEVENTEEN, EIGHTEEN] {
+        let one = Refusal::WordCount;
+        assert_eq!(point_words(&words, bad, 5), Err(one));
+        assert_eq!(point_singles_words(&words, bad, 5), Err(one));
+        assert_eq!(fill_words(&words, bad, u32::MAX, &mut [0; 4], &mut [0; 5]), Err(one));
+        assert_eq!(Walk { next: 0, left: 0 }.step_words(&words, bad), Err(one));
+        assert_eq!(Walk { next: 0, left: 0 }.step_singles_words(&words, bad), Err(one));
+        assert_eq!(query_words(&words, bad, 0, cell), Err(one));
+        assert_eq!(overview_words(&words, bad, 0, cells, &mut [0; 3]), Err(one));
+    }
 }
 
 #[test]
@@ -97,21 +103,24 @@ fn four_to_seven_of_a_query() {
     assert!(query(32, Cell { m: 4, block: 268_435_455, ..CELL }).is_ok());
 }
 
-/// With the zero pair every later refusal is due too: 2, 4, 5, 6, 7, 3.
+/// With the zero pair every later refusal is due too: 2, 17, 18, 4, 5, 6, 7, 3.
 #[test]
 fn refusals_of_a_query_come_in_order() {
-    let most = u32::MAX;
+    let (most, good) = (u32::MAX, ScrambleBytes::from(NO_SHIFT));
     let steps = [
-        (33, [most; 5], 2),
-        (2, [most; 5], 4),
-        (2, [2, most, most, most, most], 5),
-        (2, [2, 1, most, most, most], 6),
-        (2, [2, 1, 1, 1, most], 7),
-        (2, [2, 1, 1, 1, 0], 3),
+        (33, SEVENTEEN, [most; 5], 2),
+        (33, EIGHTEEN, [most; 5], 2),
+        (2, SEVENTEEN, [most; 5], 17),
+        (2, EIGHTEEN, [most; 5], 18),
+        (2, good, [most; 5], 4),
+        (2, good, [2, most, most, most, most], 5),
+        (2, good, [2, 1, most, most, most], 6),
+        (2, good, [2, 1, 1, 1, most], 7),
+        (2, good, [2, 1, 1, 1, 0], 3),
     ];
-    for (level, [m, a, column, row, block], number) in steps {
+    for (level, flips, [m, a, column, row, block], number) in steps {
         let cell = Cell { m, a, column, row, block };
-        let refusal = query_words(&[0; 64], NO_SHIFT, level, cell).unwrap_err();
+        let refusal = query_words(&[0; 64], flips, level, cell).unwrap_err();
         assert_eq!(refusal.number(), number);
     }
 }
@@ -146,27 +155,32 @@ fn eight_of_an_overview() {
 /// where it is the first, and else behind refusal 3; without cells it is not given.
 #[test]
 fn refusals_of_an_overview_come_in_order() {
-    let most = u32::MAX;
+    let (most, flips) = (u32::MAX, ScrambleBytes::from(NO_SHIFT));
     let (bad_first, bad_later, good): (&[u32], &[u32], &[u32]) = (&[most, 0], &[0, most], &[0, 0]);
     let steps = [
-        (33, [most; 3], bad_first, 1, 8),
-        (33, [most; 3], bad_first, 2, 2),
-        (2, [most; 3], bad_first, 2, 4),
-        (2, [2, most, most], bad_first, 2, 5),
-        (2, [2, 1, most], bad_first, 2, 6),
-        (2, [2, 1, most], bad_later, 2, 7),
-        (2, [2, 1, 0], bad_first, 2, 6),
-        (2, [2, 1, 0], bad_later, 2, 3),
-        (2, [2, 1, 0], good, 2, 3),
-        (0, [2, 1, most], &[], 0, 2),
-        (2, [3, most, most], &[], 0, 4),
-        (2, [2, 3, most], &[], 0, 5),
-        (2, [2, 1, most], &[], 0, 7),
-        (2, [2, 1, 0], &[], 0, 3),
+        (33, SEVENTEEN, [most; 3], bad_first, 1, 8),
+        (33, SEVENTEEN, [most; 3], bad_first, 2, 2),
+        (33, EIGHTEEN, [most; 3], bad_first, 2, 2),
+        (2, SEVENTEEN, [most; 3], bad_first, 2, 17),
+        (2, EIGHTEEN, [most; 3], bad_first, 2, 18),
+        (2, flips, [most; 3], bad_first, 2, 4),
+        (2, flips, [2, most, most], bad_first, 2, 5),
+        (2, flips, [2, 1, most], bad_first, 2, 6),
+        (2, flips, [2, 1, most], bad_later, 2, 7),
+        (2, flips, [2, 1, 0], bad_first, 2, 6),
+        (2, flips, [2, 1, 0], bad_later, 2, 3),
+        (2, flips, [2, 1, 0], good, 2, 3),
+        (0, SEVENTEEN, [2, 1, most], &[], 0, 2),
+        (2, SEVENTEEN, [3, most, most], &[], 0, 17),
+        (2, EIGHTEEN, [3, most, most], &[], 0, 18),
+        (2, flips, [3, most, most], &[], 0, 4),
+        (2, flips, [2, 3, most], &[], 0, 5),
+        (2, flips, [2, 1, most], &[], 0, 7),
+        (2, flips, [2, 1, 0], &[], 0, 3),
     ];
-    for (level, [m, a, block], columns, answers, number) in steps {
+    for (level, flips, [m, a, block], columns, answers, number) in steps {
         let cells = Cells { m, a, columns, rows: columns, block };
-        let refused = overview_words(&[0; 64], NO_SHIFT, level, cells, &mut vec![0; answers]);
+        let refused = overview_words(&[0; 64], flips, level, cells, &mut vec![0; answers]);
         assert_eq!(refused.unwrap_err().number(), number);
     }
 }
@@ -182,6 +196,30 @@ fn eight_and_nine_of_a_fill() {
     assert_eq!(fill(u32::MAX, 2, 2), Err(Refusal::IndexRange));
     assert_eq!(fill(u32::MAX, 1, 1), Ok(()));
     assert_eq!(fill(u32::MAX, 0, 0), Ok(()));
+}
+
+/// An ended walk is refused too, and flips come before the buffers and the range of a fill.
+#[test]
+fn seventeen_and_eighteen_in_every_call() {
+    let pair = Pair::standard();
+    let words = pair.words();
+    for (refusal, bad) in REFUSED {
+        assert_eq!(Flips::from_bytes(bad.flips_x, bad.flips_y), Err(refusal));
+        assert_eq!(standard_point_bytes(bad, 5), Err(refusal));
+        assert_eq!(point_words(words, bad, 5), Err(refusal));
+        assert_eq!(point_singles_words(words, bad, 5), Err(refusal));
+        for (start, x_length, y_length) in [(0, 4, 4), (0, 4, 5), (u32::MAX, 2, 2)] {
+            let (mut xs, mut ys) = (vec![0; x_length], vec![0; y_length]);
+            assert_eq!(fill_words(words, bad, start, &mut xs, &mut ys), Err(refusal));
+        }
+        for left in [0, 1, u64::MAX] {
+            let walk = Walk { next: 7, left };
+            assert_eq!(walk.step_words(words, bad), Err(refusal));
+            assert_eq!(walk.step_singles_words(words, bad), Err(refusal));
+        }
+        assert_eq!(query_words(words, bad, 2, CELL), Err(refusal));
+        assert_eq!(overview_words(words, bad, 2, CELLS, &mut [0; 3]), Err(refusal));
+    }
 }
 
 #[test]
@@ -324,4 +362,6 @@ fn refusals_say_what_was_wrong() {
         Refusal::Field.to_string(),
         "refusal 16: the reader's field is wider or taller than a region"
     );
+    assert_eq!(Refusal::FlipBytes.to_string(), "refusal 17: the flips of an axis are not 32 bytes");
+    assert_eq!(Refusal::FlipBit.to_string(), "refusal 18: flip bit 255 of an axis is set");
 }

@@ -1,7 +1,9 @@
-//! The example file of the requirements, and files with one of its words changed.
+//! The example file of the requirements, files with one of its words changed, and refused flips.
 
 // Each test program uses a part of it.
 #![allow(dead_code)]
+
+pub mod flips;
 
 /// Which word of the example file is which.
 pub const LEVEL: usize = 1;
