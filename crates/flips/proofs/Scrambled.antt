@@ -54,5 +54,8 @@ module _ (flips : List ℕ) (s : ℕ) where
     pub shift-left : scramble-word flips s w ≡ plus 2 w s
     shift-left = ap (λ (x : ℕ). plus 2 x s) (leaves flips none w h)
 
+    pub only-shifted : bitXor w s ≡ scramble-word flips s w
+    only-shifted = sym (shift-left ∙ plus-two w s)
+
     pub shift-left-back : minus 2 w s < 2 ^ 32 → unscramble-word flips s w ≡ minus 2 w s
     shift-left-back small = leaves-back flips none (minus 2 w s) small

@@ -21,22 +21,19 @@ pub(crate) const MASKS: usize = 256;
 pub fn none_set(flips: AxisFlips) -> bool
     ensures { λ r. ⌜ (r ≡ true) ↔ NoneSet flips ⌝ }
 {
-    let mut sum: u32 = 0;
+    let mut sum: u16 = 0;
     let mut i: usize = 0;
     while i < 32 {
-        sum += flips[i] as u32;
+        sum += flips[i] as u16;
         i += 1;
     }
     sum == 0
 }
 
-// A product with the flips made and the shift added. Most plans have no flips, and their points are to cost no more for it.
+// A product with the flips made and the shift added.
 pub fn scramble(flips: AxisFlips, shift: u32, word: u32) -> u32
     ensures { λ r. ⌜ r ≡ scramble-word flips shift word ⌝ }
 {
-    if none_set(flips) {
-        return word ^ shift;
-    }
     flip(flips, word) ^ shift
 }
 

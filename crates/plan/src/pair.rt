@@ -1,6 +1,7 @@
 // Generator matrices (01: the pair) by value, from words or the standard ones, and the point of an index under a scramble by value.
 use crate::Point;
 use crate::Scramble;
+use crate::Shift;
 use refusal::Judgement;
 use refusal::Refusal;
 use word::COLUMNS;
@@ -9,7 +10,7 @@ use word::Index;
 ghost use mathlib.Core.Path.{_≡_};
 ghost use Rattle.net.specs.Sequence.{point};
 ghost use Rattle.refusal.specs.Refusal.{of-judgement};
-ghost use Rattle.plan.specs.Pair.{sequence, standard-pair, unknown-level, load-outcome, loaded, of-point};
+ghost use Rattle.plan.specs.Pair.{only-shift, sequence, standard-pair, unknown-level, load-outcome, loaded, of-point};
 
 // The number of words of a pair: the columns of X, then those of Y.
 pub const PAIR_WORDS: usize = 2 * COLUMNS;
@@ -83,11 +84,21 @@ impl Plan {
         })
     }
 
-    // The same of the standard matrices, by the fast way.
+    // The point of an index of the standard matrices, by the fast way.
     pub fn scrambled_standard_point(scramble: Scramble, index: Index) -> Point
         ensures { λ r. ⌜ of-point r ≡ point (sequence standard-pair scramble) index ⌝ }
     {
         scramble.scramble(Point {
+            x: word::standard_x(index),
+            y: word::standard_y(index),
+        })
+    }
+
+    // The same where nothing is flipped.
+    pub fn shifted_standard_point(shift: Shift, index: Index) -> Point
+        ensures { λ r. ⌜ of-point r ≡ point (sequence standard-pair (only-shift shift)) index ⌝ }
+    {
+        shift.add(Point {
             x: word::standard_x(index),
             y: word::standard_y(index),
         })

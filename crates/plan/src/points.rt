@@ -22,8 +22,20 @@ pub struct Scramble {
     pub flips: Flips,
 }
 
+impl Shift {
+    // The point of two products where nothing is flipped.
+    pub fn add(self, products: Point) -> Point
+        ensures { λ r. ⌜ of-point r ≡ scrambled-point (scrambling (only-shift self)) (of-point products) ⌝ }
+    {
+        Point {
+            x: products.x ^ self.x,
+            y: products.y ^ self.y,
+        }
+    }
+}
+
 impl Scramble {
-    // A shift without flips, as the records of a region file have it.
+    // A shift without flips.
     pub fn of_shift(shift: Shift) -> Scramble
         ensures { λ r. ⌜ r ≡ only-shift shift ⌝ }
     {
@@ -31,14 +43,17 @@ impl Scramble {
         Scramble { shift, flips }
     }
 
-    // The point of two products.
+    // The point of two products. Most plans have no flips, and their points are to cost no more for it.
     pub fn scramble(self, products: Point) -> Point
         ensures { λ r. ⌜ of-point r ≡ scrambled-point (scrambling self) (of-point products) ⌝ }
     {
         let flips = self.flips;
+        let shift = self.shift;
+        if flips.none_set() {
+            return shift.add(products);
+        }
         let flips_x = flips.x;
         let flips_y = flips.y;
-        let shift = self.shift;
         Point {
             x: flips::scramble(flips_x, shift.x, products.x),
             y: flips::scramble(flips_y, shift.y, products.y),

@@ -7,8 +7,8 @@ use Rattle.stage.specs.Region.{corner-outcome}
 use Rattle.visits.proofs.positions.position_of.Statement.{statement}
 use Rattle.visits.proofs.positions.position_of.Tie as tie
 
-point-of-requires : tie.Need-point-of-requires
-point-of-requires c κs = search needs
+shifted-standard-point-requires : tie.Need-shifted-standard-point-requires
+shifted-standard-point-requires c κs = search needs
 
 corner-requires : tie.Need-corner-requires
 corner-requires c κs = search needs
@@ -16,7 +16,7 @@ corner-requires c κs = search needs
 returns : tie.Need-returns
 returns c =
     let r = c .before .before .before .args .planned in
-    c .corner .ensures ∙ ap (λ (p : ℕ × ℕ). corner-outcome (r .region) (p .0) (p .1)) (c .before .point-of .ensures)
+    c .corner .ensures ∙ ap (λ (p : ℕ × ℕ). corner-outcome (r .region) (p .0) (p .1)) (c .before .shifted-standard-point .ensures)
 
 pub position-of-spec : {M : Type 1} → statement M
-position-of-spec = tie.close (tie.spec point-of-requires corner-requires returns)
+position-of-spec = tie.close (tie.spec shifted-standard-point-requires corner-requires returns)

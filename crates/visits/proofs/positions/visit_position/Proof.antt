@@ -13,8 +13,8 @@ use Rattle.visits.proofs.positions.visit_position.Tie as tie
 record-at-requires : tie.Need-record-at-requires
 record-at-requires c κs = search needs
 
-point-of-requires : tie.Need-point-of-requires
-point-of-requires c κs = search needs
+shifted-standard-point-requires : tie.Need-shifted-standard-point-requires
+shifted-standard-point-requires c κs = search needs
 
 reader-field-requires : tie.Need-reader-field-requires
 reader-field-requires c κs = search needs
@@ -26,7 +26,7 @@ returns : tie.Need-returns
 returns c =
     let a = c .before .before .before .before .before .before .args in
     let named = c .before .before .before .before .record-at in
-    let p = c .before .before .point-of in
+    let p = c .before .before .shifted-standard-point in
     c .position .ensures
     ∙ ap (λ (q : ℕ × ℕ). position-outcome (c .before .reader-field .result) (named .result .region) (q .0) (q .1)) (p .ensures)
     ∙ ap₂ (λ (r : Record) (f : Field). let q = record-point r (a .index) in position-outcome f (r .region) (q .0) (q .1))
@@ -37,7 +37,7 @@ visit-position-spec =
     tie.close
     (tie.spec
     record-at-requires
-    point-of-requires
+    shifted-standard-point-requires
     reader-field-requires
     position-requires
     returns)
