@@ -9,8 +9,9 @@ use word::Columns;
 use word::Index;
 ghost use mathlib.Core.Path.{_≡_};
 ghost use Rattle.net.specs.Sequence.{point};
+ghost use Rattle.net.specs.Scrambling.{plain};
 ghost use Rattle.refusal.specs.Refusal.{of-judgement};
-ghost use Rattle.plan.specs.Pair.{only-shift, sequence, standard-pair, unknown-level, load-outcome, loaded, of-point};
+ghost use Rattle.plan.specs.Pair.{generators, only-shift, sequence, standard-pair, unknown-level, load-outcome, loaded, of-point};
 
 // The number of words of a pair: the columns of X, then those of Y.
 pub const PAIR_WORDS: usize = 2 * COLUMNS;
@@ -84,23 +85,27 @@ impl Plan {
         })
     }
 
-    // The point of an index of the standard matrices, by the fast way.
+    // The products of the standard matrices with an index, by the fast way.
+    fn standard_products(index: Index) -> Point
+        ensures { λ r. ⌜ of-point r ≡ point (plain (generators standard-pair)) index ⌝ }
+    {
+        Point {
+            x: word::standard_x(index),
+            y: word::standard_y(index),
+        }
+    }
+
+    // The point of an index of the standard matrices.
     pub fn scrambled_standard_point(scramble: Scramble, index: Index) -> Point
         ensures { λ r. ⌜ of-point r ≡ point (sequence standard-pair scramble) index ⌝ }
     {
-        scramble.scramble(Point {
-            x: word::standard_x(index),
-            y: word::standard_y(index),
-        })
+        scramble.scramble(Plan::standard_products(index))
     }
 
     // The same where nothing is flipped.
     pub fn shifted_standard_point(shift: Shift, index: Index) -> Point
         ensures { λ r. ⌜ of-point r ≡ point (sequence standard-pair (only-shift shift)) index ⌝ }
     {
-        shift.add(Point {
-            x: word::standard_x(index),
-            y: word::standard_y(index),
-        })
+        shift.add(Plan::standard_products(index))
     }
 }

@@ -23,3 +23,9 @@ module _ {A : Type 0} (z : A) (f : A → A) where
   pub map-whole : (l : List A) (i : ℕ) → length l ≤ i → map f (take i l) ++ drop i l ≡ map f l
   map-whole l i h =
       ap (λ (m : List A). map f m ++ drop i l) (take-all i l h) ∙ ap (λ (m : List A). map f l ++ m) (drop-of-length-le l h) ∙ append-nil (map f l)
+
+  -- an element of the changed list
+  pub map-at : (l : List A) (i : ℕ) → i < length l → getD (map f l) i z ≡ f (getD l i z)
+  map-at [] i h = absurd (not-suc-le-zero h)
+  map-at (y ∷ ys) zero h = refl
+  map-at (y ∷ ys) (suc i) h = map-at ys i (le-of-suc-le-suc h)

@@ -1,16 +1,17 @@
 -- Cells of an overview: their tests as lists, and one product with the columns of the inverse for each. Assumes nothing.
 use mathlib.Core.Path.{_≡_, refl, sym, ap, ap₂, _∙_}
 use mathlib.Core.Bool.{false, _||_}
-use mathlib.Core.List.{List, [], _∷_}
+use mathlib.Core.List.{List, [], _∷_, map}
 use Prim.Native.Nat.{ℕ, zero, suc, _+_, _-_, _*_, _^_, _≤_, _<_}
 use native.Mathlib.Omega.{arith}
 use borrow.Author.Tests.{leb-false}
 use lib.Bits.{bitXor}
 use lib.Dec.{leb}
-use lib.ListN.{length, getD, drop, drop-of-length-le}
+use lib.ListN.{length, getD, drop, length-map, drop-of-length-le}
 use lib.Pow.{pow-pos}
 use lib.Seq.{drop-cons, ext-getD}
 use Rattle.ranges.specs.Unique.{Only}
+use Rattle.ranges.proofs.Mapped.{map-at}
 use Rattle.ranges.proofs.Tests.{neither-holds}
 use Rattle.digits.specs.Digits.{plus}
 use Rattle.digits.proofs.Arithmetic.{plus-assoc, plus-comm, plus-split, zero-plus}
@@ -86,12 +87,14 @@ module _ (S : Sequence) (m a k : ℕ) where
   visit-at (c ∷ cs) (r ∷ rs) e zero l = refl
   visit-at (c ∷ cs) (r ∷ rs) e (suc i) l = visit-at cs rs (omega arith) i (omega arith)
 
-  pub visits-are : (cs rs answers : List ℕ) → length cs ≡ length rs → length answers ≡ length cs
-      → ((i : ℕ) → i < length cs → getD answers i 0 ≡ visit-index S m a k (getD cs i 0) (getD rs i 0))
-      → answers ≡ visit-indexes S m a k cs rs
-  visits-are cs rs answers e f each =
-      ext-getD 0 answers _ (f ∙ sym (length-visits cs rs e))
-      (λ i h. each i (omega arith) ∙ sym (visit-at cs rs e i (omega arith)))
+  -- the answers that are made of numbers, where each is that of its cell
+  pub mapped-are : (cs rs numbers : List ℕ) (f : ℕ → ℕ) → length cs ≡ length rs → length numbers ≡ length cs
+      → ((i : ℕ) → i < length cs → f (getD numbers i 0) ≡ visit-index S m a k (getD cs i 0) (getD rs i 0))
+      → map f numbers ≡ visit-indexes S m a k cs rs
+  mapped-are cs rs numbers f e many each =
+      let long : length (map f numbers) ≡ length cs = length-map numbers f ∙ many in
+      ext-getD 0 (map f numbers) _ (long ∙ sym (length-visits cs rs e))
+      (λ i h. map-at 0 f numbers i (omega (arith, length-map numbers f)) ∙ each i (omega (arith, long)) ∙ sym (visit-at cs rs e i (omega (arith, long))))
 
 -- ---- one product a cell
 

@@ -17,14 +17,17 @@ use word::Columns;
 use word::Index;
 use word::join;
 ghost use mathlib.Core.Path.{_≡_};
-ghost use Prim.Native.Nat.{_≤_};
+ghost use mathlib.Core.List.{map};
+ghost use Prim.Native.Nat.{ℕ, _≤_, _<_};
+ghost use lib.Bits.{bitXor};
 ghost use lib.ListN.{length, getD};
-ghost use Rattle.net.specs.Generators.{Valid};
+ghost use Rattle.net.specs.Generators.{Valid, product};
 ghost use Rattle.refusal.specs.Outcome.{accepted, then, part-left};
 ghost use Rattle.refusal.specs.Refusal.{of-judgement};
 ghost use Rattle.plan.specs.Pair.{generators, sequence, scramble-of, largest-level};
 ghost use Rattle.elimination.specs.Elimination.{ShapeInverse};
 ghost use Rattle.stratify.specs.Answers.{Cell, ShiftFits};
+ghost use Rattle.stratify.specs.Strips.{plain-number};
 ghost use Rattle.stratify.specs.Overview.{AllInside, others-outside, overview-outcome, visit-indexes};
 
 // The first of a list, or 0 where it is empty.
@@ -52,8 +55,45 @@ fn others_outside(m: u32, a: u32, columns: &[u32], rows: &[u32]) -> bool
     false
 }
 
-// Writes the index of the block in each cell: the product of the inverse with the number of the plain cell from which it comes, and one word that
-// the block adds for all cells.
+// Writes in the place of each answer the number of the plain cell from which the scramble leads to its cell.
+fn put_numbers(
+    scramble: Scramble,
+    m: u32,
+    a: u32,
+    columns: &[u32],
+    rows: &[u32],
+    answers: &mut [Index],
+)
+    requires { ⌜ (a ≤ m) × (m ≤ 32) × AllInside m a (now columns) (now rows) ⌝ }
+    requires { ⌜ (length (now columns) ≡ length (now rows)) × (length (now columns) ≡ length (now answers)) ⌝ }
+    ensures { λ _. ⌜
+        (length (now (answers .exit)) ≡ length (now (answers .entry)))
+        × ((d : ℕ) → d < length (now (columns .entry)) → getD (now (answers .exit)) d 0
+        ≡ plain-number scramble m a (getD (now (columns .entry)) d 0) (getD (now (rows .entry)) d 0)) ⌝ }
+{
+    let flips = scramble.flips;
+    let unflipped = flips.none_set();
+    let added = shift_number(scramble.shift, m, a);
+    let mut i: usize = 0;
+    while i < columns.len() {
+        answers[i] = plain_number_among(scramble, unflipped, added, m, a, columns[i], rows[i]);
+        i += 1;
+    }
+}
+
+// Makes of each number the product of the inverse with it, and adds one word that the block adds for all cells.
+fn put_indexes(inverse: Columns, base: u32, answers: &mut [Index])
+    ensures { λ _. ⌜ now (answers .exit) ≡ map (λ n. bitXor base (product 2 inverse n)) (now (answers .entry)) ⌝ }
+{
+    let mut i: usize = 0;
+    while i < answers.len() {
+        answers[i] = base ^ word::product(inverse, answers[i]);
+        i += 1;
+    }
+}
+
+// Writes the index of the block in each cell. The numbers come first, so that the loop with the products calls nothing and keeps the columns of the
+// inverse at hand.
 fn put_answers(
     plan: Plan,
     scramble: Scramble,
@@ -73,15 +113,8 @@ fn put_answers(
 {
     let first = block_cell(plan, m, a, block);
     let base = join(block, word::product(inverse, first), m);
-    let flips = scramble.flips;
-    let unflipped = flips.none_set();
-    let added = shift_number(scramble.shift, m, a);
-    let mut i: usize = 0;
-    while i < columns.len() {
-        let cell = plain_number_among(scramble, unflipped, added, m, a, columns[i], rows[i]);
-        answers[i] = base ^ word::product(inverse, cell);
-        i += 1;
-    }
+    put_numbers(scramble, m, a, columns, rows, answers);
+    put_indexes(inverse, base, answers);
 }
 
 // The index of a block in each of many cells of the shape (m, a). It is refused as the query of the earliest refused cell would be, and
