@@ -83,9 +83,10 @@ uint32_t vektrid_fill(const uint32_t *words, size_t count, uint32_t shift_x, uin
 /* A walk over count visits from start on: 0 or 9. */
 uint32_t vektrid_walk_open(uint32_t start, uint64_t count, uint32_t *next, uint64_t *left);
 
-/* A step: 0, or the first refusal that applies, in the order 1, 17, 18, also where the walk has ended. *given is 1 where there was a visit, its index and point then in *index, *x and *y; 0 where the walk has ended, and those
- * three keep what they held. *next and *left become the walk after the step. Any *next and *left are answered, also ones that were never
- * opened. After the visit of index 2^32 - 1, *left is 0 and *next stays. */
+/* A step: 0, or the first refusal that applies, in the order 1, 17, 18, also where the walk has ended. *given is 1 where there was a visit, its
+ * index and point then in *index, *x and *y; 0 where the walk has ended, and those three keep what they held. *next and *left become the walk
+ * after the step. Any *next and *left are answered, also ones that were never opened. After the visit of index 2^32 - 1, *left is 0 and *next
+ * stays. */
 uint32_t vektrid_walk_step(const uint32_t *words, size_t count, uint32_t shift_x, uint32_t shift_y, const uint8_t *flips_x,
                            size_t flips_x_count, const uint8_t *flips_y, size_t flips_y_count, uint32_t *next, uint64_t *left, uint32_t *given,
                            uint32_t *index, uint32_t *x, uint32_t *y);

@@ -43,7 +43,7 @@ impl Scramble {
         Scramble { shift, flips }
     }
 
-    // The point of two products. Most plans have no flips, and their points are to cost no more for it.
+    // The point of two products. Most plans have no flips, and then the shift alone is left.
     pub fn scramble(self, products: Point) -> Point
         ensures { λ r. ⌜ of-point r ≡ scrambled-point (scrambling self) (of-point products) ⌝ }
     {

@@ -94,7 +94,9 @@ module _ (S : Sequence) (m a k : ℕ) where
   mapped-are cs rs numbers f e many each =
       let long : length (map f numbers) ≡ length cs = length-map numbers f ∙ many in
       ext-getD 0 (map f numbers) _ (long ∙ sym (length-visits cs rs e))
-      (λ i h. map-at 0 f numbers i (omega (arith, length-map numbers f)) ∙ each i (omega (arith, long)) ∙ sym (visit-at cs rs e i (omega (arith, long))))
+      (λ i h.
+      let inside : i < length cs = omega (arith, long) in
+      map-at 0 f numbers i (omega (arith, many)) ∙ each i inside ∙ sym (visit-at cs rs e i inside))
 
 -- ---- one product a cell
 
