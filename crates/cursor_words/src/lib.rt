@@ -1,5 +1,7 @@
 // Cursors in listings and in sheets as words that a caller keeps, and back, and a piece of a text by such words. All words stand for a cursor,
 // so nothing that a caller writes there is wrong.
+#![tactic(auto)]
+
 mod cursors;
 mod parts;
 mod pieces;

@@ -6,7 +6,7 @@ use file_words::walk_of;
 use visits::FileWalk;
 
 // The first two words of a cursor: the kind of its place, and a number that some kinds have.
-#[derive(Drop)]
+#[derive(Clone, Copy)]
 pub(crate) struct Tag {
     pub kind: u32,
     pub number: u32,

@@ -7,7 +7,7 @@ ghost use Rattle.cursor_words.specs.Cursors.{cursor_of};
 use crate::cursors::{CursorWords, cursor_of, words_of_cursor};
 
 // How many bytes were written, and the cursor past them.
-#[derive(Drop)]
+#[derive(Clone, Copy)]
 pub struct PieceWords {
     pub len: usize,
     pub cursor: CursorWords,

@@ -7,7 +7,7 @@ ghost use Rattle.cursor_words.specs.SheetCursors.{sheet_cursor_of};
 use crate::sheet_cursors::{SheetCursorWords, sheet_cursor_of, words_of_sheet_cursor};
 
 // How many bytes were written, and the cursor past them.
-#[derive(Drop)]
+#[derive(Clone, Copy)]
 pub struct SheetPieceWords {
     pub len: usize,
     pub cursor: SheetCursorWords,

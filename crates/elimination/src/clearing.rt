@@ -5,7 +5,7 @@ ghost use Rattle.word.specs.Index.{index_bits};
 ghost use Rattle.elimination.specs.Basis.{part, Long, added, Clears, Stays};
 
 // A word beside an index. Of a column, the word is the product with the index; of a word asked for, it is what that product leaves of it.
-#[derive(Drop)]
+#[derive(Clone, Copy)]
 pub(crate) struct Entry {
     pub word: u32,
     pub index: u32,

@@ -9,7 +9,7 @@ use word::{COLUMNS, Columns, INDEX_BITS};
 
 // What is found of m columns. Either kernel is the least index above 0 whose product is 0, and the columns are 0; or kernel is 0 and the
 // first m columns are those of the inverse: their product with a word of m bits that is the product of an index is that index.
-#[derive(Drop)]
+#[derive(Clone, Copy)]
 pub struct Inverse {
     pub kernel: u32,
     pub columns: Columns,

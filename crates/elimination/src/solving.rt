@@ -9,7 +9,7 @@ use word::{COLUMNS, Columns, INDEX_BITS};
 
 // What an elimination over m columns finds. Either kernel is the least index above 0 whose product is 0, and index is 0; or kernel is 0 and
 // index is the one whose product was asked for, where an index of m bits has that product.
-#[derive(Drop)]
+#[derive(Clone, Copy)]
 pub struct Elimination {
     pub kernel: u32,
     pub index: u32,

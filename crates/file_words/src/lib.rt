@@ -1,5 +1,7 @@
 // File walks as words that a caller keeps, and back; opening a file and a step by such words. C keeps a walk so: an array of numbers needs
 // no heap and no handle. All words stand for a walk, so nothing that a caller writes there is wrong.
+#![tactic(auto)]
+
 mod file_walks;
 mod openings;
 mod steps;

@@ -8,7 +8,7 @@ use crate::file_walks::{FileWalkWords, words_of};
 use visits::{FileWalk, OpenedFile};
 
 // The answer, and what the words lent for the walk hold then.
-#[derive(Drop)]
+#[derive(Clone, Copy)]
 pub struct OpenedWords {
     pub answer: u32,
     pub walk: FileWalkWords,

@@ -6,7 +6,7 @@ use crate::file_walks::{FileWalkWords, walk_of, words_of};
 use visits::FileStep;
 
 // The walk after a step, whether there was a visit, and what the words lent for the visit hold then.
-#[derive(Drop)]
+#[derive(Clone, Copy)]
 pub struct SteppedWords {
     pub walk: FileWalkWords,
     pub given: u32,

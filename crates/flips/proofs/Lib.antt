@@ -1,4 +1,4 @@
-pub mod Flips
+pub mod FlipBits
 pub mod None
 pub mod Turn
 pub mod Tree

@@ -13,7 +13,7 @@ use Rattle.digits.proofs.Digit.{digit_lt, ext_below, digit_zero}
 use Rattle.digits.proofs.Two.{one_lt_two}
 use Rattle.net.specs.Sequence.{top}
 use Rattle.flips.specs.Flips.{flip_bit, flip_at, flipped, unflipped, NoneSet}
-use Rattle.flips.proofs.Flips.{same_bits, at, flipped_lt, flipped-undone, bit, deeper}
+use Rattle.flips.proofs.FlipBits.{same_bits, at, flipped_lt, flipped-undone, bit, deeper}
 
 -- every byte is 0
 abbrev pub NoBytes : List ℕ → ℕ → Type 0

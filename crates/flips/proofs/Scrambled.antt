@@ -14,7 +14,7 @@ use Rattle.net.specs.Scrambling.{PrefixBijection, RightInverse}
 use Rattle.net.proofs.Scrambling.{lawful_scramblings, undone_scramblings}
 use Rattle.flips.specs.Flips.{flipped, unflipped, NoneSet}
 use Rattle.flips.specs.Scramble.{scramble_word, unscramble_word, mask}
-use Rattle.flips.proofs.Flips.{flipped-lawful, flipped-undone, by_top_byte}
+use Rattle.flips.proofs.FlipBits.{flipped-lawful, flipped-undone, by_top_byte}
 use Rattle.flips.proofs.None.{leaves, leaves_back}
 
 module _ (flips : List ℕ) (s : ℕ) where

@@ -16,7 +16,7 @@ use Rattle.flips.specs.Flips.{flip_bit, flipped, unflipped}
 use Rattle.flips.specs.Scramble.{scramble_word, unscramble_word}
 use Rattle.flips.specs.Load.{flips_of, flips_outcome, no_flips}
 use Rattle.flips.specs.Theorem.{Flipping, WordScrambling, FlipsJudged, Theorems}
-use Rattle.flips.proofs.Flips.{flip_bit_lt, at, bit, deeper, flipped_lt, flipped-lawful, flipped-undone}
+use Rattle.flips.proofs.FlipBits.{flip_bit_lt, at, bit, deeper, flipped_lt, flipped-lawful, flipped-undone}
 use Rattle.flips.proofs.None.{leaves, none-of-zeros, zeros-of-none}
 use Rattle.flips.proofs.Scrambled.{scrambled-lawful, scrambled-undone, masked}
 use Rattle.flips.proofs.Loading.{refuses-x, refuses-y, refuses_bit_x, refuses_bit_y, accepts}

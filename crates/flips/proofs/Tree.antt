@@ -14,7 +14,7 @@ use Rattle.net.specs.Sequence.{top}
 use Rattle.net.proofs.Scrambling.{top-none, top-suc}
 use Rattle.flips.specs.Flips.{flip_bit, flipped}
 use Rattle.flips.specs.Scramble.{mask}
-use Rattle.flips.proofs.Flips.{flip_bit_lt}
+use Rattle.flips.proofs.FlipBits.{flip_bit_lt}
 use Rattle.flips.proofs.Turn.{high, mask_starts, mask_turn, mask-ends}
 
 -- m is what is added to the bits that lead to node k

@@ -14,7 +14,7 @@ use Rattle.net.specs.Sequence.{top}
 use Rattle.net.specs.Scrambling.{nested, adding, unnested, taking}
 use Rattle.net.proofs.Scrambling.{nested-rest, unnested_lt, unnested-rest}
 use Rattle.flips.specs.Flips.{flip_bit, flip_at, flipped, unflipped}
-use Rattle.flips.proofs.Flips.{flip_bit_lt, at, permutes, leads, passes, passes-back, node_lt}
+use Rattle.flips.proofs.FlipBits.{flip_bit_lt, at, permutes, leads, passes, passes-back, node_lt}
 
 -- the node of the t bits p, in the tree numbered from its root
 abbrev pub Node : ℕ → ℕ → ℕ → Type 0

@@ -13,14 +13,14 @@ const FLIP_BYTES: usize = 32;
 pub type AxisFlips = [u8; FLIP_BYTES];
 
 // The flips of both axes.
-#[derive(Drop)]
+#[derive(Clone, Copy)]
 pub struct Flips {
     pub x: AxisFlips,
     pub y: AxisFlips,
 }
 
 // The answer stands beside the flips, since an enum holds no array. Of refused ones no bit is set.
-#[derive(Drop)]
+#[derive(Clone, Copy)]
 pub struct Loaded {
     pub answer: Judgement,
     pub flips: Flips,

@@ -3,7 +3,7 @@ use crate::{pairs, positions, print, units};
 use plan::{Plan, Scramble};
 use stratify::Located;
 
-#[derive(Drop)]
+#[derive(Clone, Copy)]
 pub enum Section {
     // The point of an index.
     Standard,

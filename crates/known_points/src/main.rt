@@ -1,6 +1,8 @@
 // Prints what is also computed by rust/reference, and is compared with it byte by byte: the first 1,024 points of the standard pair,
 // plain and shifted, points of a pair that is not standard, and the answers of check, query, fill and walk at their limits. Then unit
 // numbers by their bits, positions in regions, answers to region files, listings, sheets, and points, queries and refusals under flips.
+#![tactic(auto)]
+
 mod files;
 mod flipped;
 mod lines;

@@ -3,7 +3,7 @@ use crate::{files, print};
 use sheet::Cursor;
 
 // The length of a sheet, and how much of the buffer its last piece fills.
-#[derive(Drop)]
+#[derive(Clone, Copy)]
 struct Walked {
     bytes: u64,
     len: usize,

@@ -1,5 +1,7 @@
 // Lists the visits of the region file on standard input, or prints its refusal. Standard output has the listing and nothing else; what went
 // wrong is said on standard error.
+#![tactic(auto)]
+
 ghost use Rattle.listing.specs.Listing.{listing};
 ghost use Rattle.streams.specs.Ending.{CountedWhole};
 

@@ -10,7 +10,7 @@ use crate::refusals::refusal_line;
 use visits::{FileWalk, OpenedFile};
 
 // What stands before the lines that are still to come.
-#[derive(Drop)]
+#[derive(Clone, Copy)]
 pub enum Lead {
     Nothing,
     Header,
@@ -18,14 +18,14 @@ pub enum Lead {
 }
 
 // Where a listing goes on: what stands before the next lines, and the walk whose visits they show.
-#[derive(Drop)]
+#[derive(Clone, Copy)]
 pub struct Cursor {
     pub lead: Lead,
     pub walk: FileWalk,
 }
 
 // The first len bytes of the buffer are the piece, and next is past it.
-#[derive(Drop)]
+#[derive(Clone, Copy)]
 pub struct Piece {
     pub len: usize,
     pub next: Cursor,

@@ -1,5 +1,7 @@
 // The listing of a region file as text, piece by piece: a cursor that goes from call to call by value. Every call takes any bytes and
 // any cursor.
+#![tactic(auto)]
+
 mod cursors;
 mod lines;
 mod refusals;

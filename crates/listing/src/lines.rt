@@ -10,7 +10,7 @@ use visits::{FileStep, FileVisit, FileWalk};
 pub const LONGEST_LINE: usize = 2 * text::LONGEST_NUMBER + 2 * text::LONGEST_SIGNED;
 
 // How far the lines reach in the buffer, and the walk after them.
-#[derive(Drop)]
+#[derive(Clone, Copy)]
 pub(crate) struct Reached {
     pub len: usize,
     pub walk: FileWalk,

@@ -10,7 +10,7 @@ use word::Columns;
 const LARGEST_SIZE: u32 = 32;
 
 // A shape, by its size m and the number a of its rows of X.
-#[derive(Drop)]
+#[derive(Clone, Copy)]
 pub struct Start {
     pub m: u32,
     pub a: u32,

@@ -6,7 +6,7 @@ ghost use Rattle.answers.specs.Answers.{answer_number, value_left};
 use refusal::{Judgement, Refusal};
 
 // The answer, and what the words lent for a bad shape and its least index hold then.
-#[derive(Drop)]
+#[derive(Clone, Copy)]
 pub struct CheckAnswer {
     pub answer: u32,
     pub m: u32,

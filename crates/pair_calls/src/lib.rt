@@ -1,5 +1,7 @@
 // Calls with a pair given as 64 words, by value: the words that C lends come in as numbers and go out in a struct, with the answer's
 // number. The crate vektrid stores them. Every call takes any words, and refuses what is no pair before all else.
+#![tactic(auto)]
+
 mod checks;
 mod pairs;
 mod points;

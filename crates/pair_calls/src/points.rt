@@ -10,7 +10,7 @@ use unit::PointedSingles;
 use word::Index;
 
 // The answer, and what the words lent for the point hold then.
-#[derive(Drop)]
+#[derive(Clone, Copy)]
 pub struct PointAnswer {
     pub answer: u32,
     pub x: u32,
@@ -18,7 +18,7 @@ pub struct PointAnswer {
 }
 
 // The same with the point as singles.
-#[derive(Drop)]
+#[derive(Clone, Copy)]
 pub struct SinglesAnswer {
     pub answer: u32,
     pub x: f32,

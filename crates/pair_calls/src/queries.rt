@@ -11,7 +11,7 @@ use stratify::{Block, Located};
 use word::Index;
 
 // The answer, and what the words lent for the index and for the least index of a bad shape hold then.
-#[derive(Drop)]
+#[derive(Clone, Copy)]
 pub struct QueryAnswer {
     pub answer: u32,
     pub index: Index,

@@ -9,7 +9,7 @@ use unit::SinglesStep;
 use word::Index;
 
 // The answer, and what the words lent to a step hold then.
-#[derive(Drop)]
+#[derive(Clone, Copy)]
 pub struct StepAnswer {
     pub answer: u32,
     pub next: Index,
@@ -21,7 +21,7 @@ pub struct StepAnswer {
 }
 
 // The same with the point as singles.
-#[derive(Drop)]
+#[derive(Clone, Copy)]
 pub struct SinglesStepAnswer {
     pub answer: u32,
     pub next: Index,

@@ -18,7 +18,7 @@ use Rattle.net.proofs.Theorem as net
 use Rattle.flips.specs.Flips.{flip_at, flipped, NoneSet}
 use Rattle.flips.specs.Scramble.{scramble_word}
 use Rattle.flips.specs.Load.{no_flips}
-use Rattle.flips.proofs.Flips.{bit, at, deep}
+use Rattle.flips.proofs.FlipBits.{bit, at, deep}
 use Rattle.flips.proofs.Theorem as flips
 use Rattle.plan.specs.declared.pair.Plan.{Plan}
 use Rattle.plan.specs.declared.points.Shift.{Shift}

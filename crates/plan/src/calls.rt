@@ -9,7 +9,7 @@ use refusal::{Judgement, Refusal};
 use word::Index;
 
 // The point, or why there is none.
-#[derive(Drop)]
+#[derive(Clone, Copy)]
 pub enum Pointed {
     At(Point),
     Refused(Refusal),

@@ -13,14 +13,14 @@ use word::{COLUMNS, Columns, Index};
 pub const PAIR_WORDS: usize = 2 * COLUMNS;
 
 // Two generator matrices by their columns: column c belongs to index bit c, and row 0 is the top bit of a column.
-#[derive(Drop)]
+#[derive(Clone, Copy)]
 pub struct Plan {
     pub x: Columns,
     pub y: Columns,
 }
 
 // The answer stands beside the matrices, since an enum holds no array. Of a refused pair they are all zero, which no check passes.
-#[derive(Drop)]
+#[derive(Clone, Copy)]
 pub struct Loaded {
     pub answer: Judgement,
     pub plan: Plan,

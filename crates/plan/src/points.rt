@@ -6,21 +6,21 @@ ghost use Rattle.plan.specs.Pair.{scrambling, only_shift, of_point};
 use flips::Flips;
 
 // The two coordinates of a visit.
-#[derive(Drop)]
+#[derive(Clone, Copy)]
 pub struct Point {
     pub x: u32,
     pub y: u32,
 }
 
 // A digital shift (01: scramble): a word for each axis, added without carries.
-#[derive(Drop)]
+#[derive(Clone, Copy)]
 pub struct Shift {
     pub x: u32,
     pub y: u32,
 }
 
 // All that follows the products: flips, and then a shift.
-#[derive(Drop)]
+#[derive(Clone, Copy)]
 pub struct Scramble {
     pub shift: Shift,
     pub flips: Flips,

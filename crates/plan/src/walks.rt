@@ -11,21 +11,21 @@ use refusal::{Judgement, Refusal};
 use word::{Index, LAST_INDEX};
 
 // The next index, and how many visits are left (01's word; the field: a cursor).
-#[derive(Drop)]
+#[derive(Clone, Copy)]
 pub struct Walk {
     pub next: Index,
     pub left: u64,
 }
 
 // The walk, or why there is none.
-#[derive(Drop)]
+#[derive(Clone, Copy)]
 pub enum Opened {
     Open(Walk),
     Refused(Refusal),
 }
 
 // An index with its point.
-#[derive(Drop)]
+#[derive(Clone, Copy)]
 pub struct Visit {
     pub index: Index,
     pub x: u32,
@@ -33,7 +33,7 @@ pub struct Visit {
 }
 
 // What a step gives: the next visit, or the end, or why neither.
-#[derive(Drop)]
+#[derive(Clone, Copy)]
 pub enum Step {
     Visited(Visit),
     Ended,
@@ -41,7 +41,7 @@ pub enum Step {
 }
 
 // A step together with the walk after it.
-#[derive(Drop)]
+#[derive(Clone, Copy)]
 pub struct Stepped {
     pub step: Step,
     pub walk: Walk,

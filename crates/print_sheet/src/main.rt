@@ -1,5 +1,7 @@
 // Prints the sheet of the region file on standard input, or its refusal. Standard output has the sheet and nothing else; what went wrong is said
 // on standard error.
+#![tactic(auto)]
+
 ghost use Rattle.sheet.specs.Sheet.{sheet};
 ghost use Rattle.streams.specs.Ending.{CountedWhole};
 

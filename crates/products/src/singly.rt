@@ -10,7 +10,7 @@ use crate::masking::masked;
 use word::{Columns, Index};
 
 // A generator matrix with the running sums of its columns.
-#[derive(Drop)]
+#[derive(Clone, Copy)]
 pub(crate) struct Axis {
     pub columns: Columns,
     pub sums: Columns,

@@ -1,1 +1,2 @@
 // Ranges of numbers: definitions in specs/, laws in proofs/. There is no code.
+#![tactic(auto)]

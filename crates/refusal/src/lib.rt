@@ -1,9 +1,11 @@
 // The refusals of document 01's table, and the answer of a call that hands out nothing else.
+#![tactic(auto)]
+
 ghost use Rattle.std.specs.Prelude.{◌≡◌};
 ghost use Rattle.refusal.specs.Refusal.{number};
 
 // Why a call refuses, with 01's numbers.
-#[derive(Drop)]
+#[derive(Clone, Copy)]
 pub enum Refusal {
     // 1: the words are no pair.
     WordCount,
@@ -72,7 +74,7 @@ impl Refusal {
 }
 
 // Accepted, or why not.
-#[derive(Drop)]
+#[derive(Clone, Copy)]
 pub enum Judgement {
     Accepted,
     Refused(Refusal),

@@ -22,7 +22,7 @@ use stage::Field;
 const MOST_VISITS: u32 = 4096;
 
 // A link of the chain: the record that holds it, and the number that it names. Record 0 holds the first, and the number 0 ends the chain.
-#[derive(Drop)]
+#[derive(Clone, Copy)]
 pub struct Link {
     pub holder: u32,
     pub named: u32,
@@ -30,7 +30,7 @@ pub struct Link {
 
 // A judgement together with the link at which it stopped: the one that is refused, or the one that ends the chain; 0 and 0 where it did
 // not come to the chain.
-#[derive(Drop)]
+#[derive(Clone, Copy)]
 pub struct Judged {
     pub judgement: Judgement,
     pub link: Link,

@@ -1,4 +1,6 @@
 // The region file: records of 32 bytes, a chain of them, and the judgement of both. Every call takes any bytes.
+#![tactic(auto)]
+
 mod chains;
 mod judging;
 mod records;

@@ -16,7 +16,7 @@ const WORD_BYTES: usize = 4;
 pub const MOST_RECORDS: u32 = 2048;
 
 // A record of the chain: the number of the next record, the region, the digital shift (01: scramble), and the count of visits.
-#[derive(Drop)]
+#[derive(Clone, Copy)]
 pub struct Record {
     pub next: u32,
     pub region: Region,

@@ -15,7 +15,7 @@ const PAGE_VISITS: u32 = 48;
 
 // Where on a page a sheet goes on: with the line of a refused file, which stands for the sheet; with the heading of a page; with so many lines
 // for visits, and then the number of the page; or nowhere, at its end.
-#[derive(Drop)]
+#[derive(Clone, Copy)]
 pub enum Place {
     Refusal(u32),
     Heading,
@@ -24,7 +24,7 @@ pub enum Place {
 }
 
 // Where a sheet goes on: the place, the number of its page, and the walk whose visits are still to come.
-#[derive(Drop)]
+#[derive(Clone, Copy)]
 pub struct Cursor {
     pub place: Place,
     pub page: u32,
@@ -32,7 +32,7 @@ pub struct Cursor {
 }
 
 // The first len bytes of the buffer are the piece, and next is past it.
-#[derive(Drop)]
+#[derive(Clone, Copy)]
 pub struct Piece {
     pub len: usize,
     pub next: Cursor,

@@ -1,5 +1,7 @@
 // Two's complement in 32 bits, under the names that Rust's own integer types give these three functions. Rattle's `as` is proved to
 // keep the number, so it cannot reinterpret a sign bit: these functions can. They take every argument.
+#![tactic(auto)]
+
 ghost use Rattle.std.specs.Prelude.{◌≡◌, nat_abs};
 ghost use Rattle.signed.specs.Words.{cast_signed, cast_unsigned};
 

@@ -8,7 +8,7 @@ use crate::axis;
 use refusal::{Judgement, Refusal};
 
 // A rectangle, in µm. y grows downward.
-#[derive(Drop)]
+#[derive(Clone, Copy)]
 pub struct Region {
     pub left: i32,
     pub top: i32,
@@ -17,21 +17,21 @@ pub struct Region {
 }
 
 // What the reader sees at one position, in µm. 0 counts as 1.
-#[derive(Drop)]
+#[derive(Clone, Copy)]
 pub struct Field {
     pub width: u32,
     pub height: u32,
 }
 
 // Where the stage moves for a visit, in µm: the corner of the reader's field.
-#[derive(Drop)]
+#[derive(Clone, Copy)]
 pub struct Position {
     pub x: i32,
     pub y: i32,
 }
 
 // The answer of a position call: a position, or refusal 10 or 16.
-#[derive(Drop)]
+#[derive(Clone, Copy)]
 pub enum Placed {
     At(Position),
     Refused(Refusal),

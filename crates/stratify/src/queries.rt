@@ -17,7 +17,7 @@ use word::{Index, join};
 pub type Block = u32;
 
 // The index that is asked for, or why there is none.
-#[derive(Drop)]
+#[derive(Clone, Copy)]
 pub enum Located {
     Found(Index),
     Refused(Refusal),

@@ -1,5 +1,7 @@
 // What the programs share that read a region file from standard input and write a text to standard output: reading to the end, writing whole, and
 // what is said on standard error. It calls the system, so its contracts rest on the kit's contracts of C functions.
+#![tactic(auto)]
+
 mod reading;
 mod transfers;
 mod words;

@@ -9,7 +9,7 @@ use libc::{EAGAIN, EINTR};
 pub(crate) const MOST_CALLS: u64 = u64::MAX;
 
 // Bytes were moved; or none, which is the end of an input; or the call is to be made again; or it failed, and errno says why.
-#[derive(Drop)]
+#[derive(Clone, Copy)]
 pub enum Transfer {
     Moved(usize),
     Nothing,

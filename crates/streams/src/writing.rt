@@ -6,7 +6,7 @@ ghost use Rattle.streams.specs.Ending.{CountedOn};
 use crate::transfers::{MOST_CALLS, Transfer, answered};
 
 // How the writing of a text ended: with its last byte, and then the number of bytes that were written; or before.
-#[derive(Drop)]
+#[derive(Clone, Copy)]
 pub enum Ending {
     Whole(u64),
     Cut,

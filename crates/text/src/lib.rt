@@ -1,5 +1,7 @@
 // Text in a lent buffer: numbers in decimal, also right-aligned in columns, and bytes as they are. A writer begins at byte `at` and hands back
 // where its text ends. Where fewer bytes are left than its longest text has, it writes nothing and hands `at` back.
+#![tactic(auto)]
+
 mod columns;
 mod fields;
 mod groups;

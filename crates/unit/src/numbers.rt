@@ -5,14 +5,14 @@ ghost use Rattle.unit.specs.Word.{double, single_bits, single, unit_number};
 use crate::exponents;
 
 // The kind of number that is asked for.
-#[derive(Drop)]
+#[derive(Clone, Copy)]
 pub enum Precision {
     Single,
     Double,
 }
 
 // A unit number, which says its kind.
-#[derive(Drop)]
+#[derive(Clone, Copy)]
 pub enum Unit {
     Single(f32),
     Double(f64),

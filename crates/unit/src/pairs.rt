@@ -9,14 +9,14 @@ use refusal::Refusal;
 use word::Index;
 
 // The two coordinates as singles.
-#[derive(Drop)]
+#[derive(Clone, Copy)]
 pub struct Singles {
     pub x: f32,
     pub y: f32,
 }
 
 // Those of an index, or why there are none.
-#[derive(Drop)]
+#[derive(Clone, Copy)]
 pub enum PointedSingles {
     At(Singles),
     Refused(Refusal),

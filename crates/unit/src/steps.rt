@@ -11,14 +11,14 @@ use refusal::Refusal;
 use word::Index;
 
 // An index with its point as singles.
-#[derive(Drop)]
+#[derive(Clone, Copy)]
 pub struct SinglesVisit {
     pub index: Index,
     pub at: Singles,
 }
 
 // What a step gives: the next visit, or the end, or why neither.
-#[derive(Drop)]
+#[derive(Clone, Copy)]
 pub enum SinglesStep {
     Visited(SinglesVisit),
     Ended,
@@ -26,7 +26,7 @@ pub enum SinglesStep {
 }
 
 // A step together with the walk after it.
-#[derive(Drop)]
+#[derive(Clone, Copy)]
 pub struct SinglesStepped {
     pub step: SinglesStep,
     pub walk: Walk,

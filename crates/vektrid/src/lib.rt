@@ -2,6 +2,8 @@
 // go through lent words, which a refused call leaves as they were, but for what refusal 3 and a judgement that stopped give.
 // include/vektrid.h declares the calls under the same names. All of them stand in this crate, since `rt staticlib` puts only a crate's own
 // functions under their C names.
+#![tactic(auto)]
+
 mod file_walks;
 mod fills;
 mod interface;

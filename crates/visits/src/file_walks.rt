@@ -11,7 +11,7 @@ use region_file::{MOST_RECORDS, Record};
 use stage::Placed;
 
 // A visit of a file: the number of its record, its index there, and its position in µm. (plan's `Visit` has a point, not a position.)
-#[derive(Drop)]
+#[derive(Clone, Copy)]
 pub struct FileVisit {
     pub number: u32,
     pub index: u32,
@@ -21,7 +21,7 @@ pub struct FileVisit {
 
 // A cursor over the visits of a file: a record as the planner reads it with its number, the index of the next visit in it, and the number
 // of records that may still follow, of which no more count than a file can have.
-#[derive(Drop)]
+#[derive(Clone, Copy)]
 pub struct FileWalk {
     pub number: u32,
     pub planned: Record,
@@ -30,21 +30,21 @@ pub struct FileWalk {
 }
 
 // What a step gives: the next visit, or the end.
-#[derive(Drop)]
+#[derive(Clone, Copy)]
 pub enum FileStep {
     Visited(FileVisit),
     Ended,
 }
 
 // A step together with the walk after it.
-#[derive(Drop)]
+#[derive(Clone, Copy)]
 pub struct FileStepped {
     pub step: FileStep,
     pub walk: FileWalk,
 }
 
 // What opening a file gives: the walk before the first visit, or the refusal of the file.
-#[derive(Drop)]
+#[derive(Clone, Copy)]
 pub enum OpenedFile {
     Open(FileWalk),
     Refused(Refusal),

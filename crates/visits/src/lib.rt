@@ -1,5 +1,7 @@
 // The visits of a region file, one by one, in the order of its chain: a walk over the file that is stepped by value. And where any
 // visit of any record lies.
+#![tactic(auto)]
+
 mod file_walks;
 mod positions;
 mod records;

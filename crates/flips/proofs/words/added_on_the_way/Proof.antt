@@ -7,7 +7,7 @@ use lib.ListN.{length, get_or, set, length-set}
 use Rattle.ranges.proofs.Written.{written}
 use Rattle.flips.specs.Flips.{flip_bit}
 use Rattle.flips.specs.Tree.{OnTheWay}
-use Rattle.flips.proofs.Flips.{read_bit}
+use Rattle.flips.proofs.FlipBits.{read_bit}
 use Rattle.flips.proofs.Tree.{AddedAt, root, onwards}
 use Rattle.flips.proofs.words.added_on_the_way.Statement.{statement}
 use Rattle.flips.proofs.words.added_on_the_way.Tie as tie

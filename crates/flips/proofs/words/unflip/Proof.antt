@@ -3,7 +3,7 @@ use mathlib.Core.Path.{sym, ap, ◌∙◌}
 use Prim.Native.Nat.{ℕ, ◌+◌, ◌-◌, ◌*◌, ◌/◌, ◌%◌, ◌^◌, ◌≤◌, ◌<◌}
 use native.Mathlib.Omega.{arith}
 use borrow.Author.Rules.{rules}
-use Rattle.flips.proofs.Flips.{read_bit}
+use Rattle.flips.proofs.FlipBits.{read_bit}
 use Rattle.flips.proofs.Turn.{Node, low, unflip_starts, unflip_node_lt, unflip_node_le, unflip_turn, unflip_ends}
 use Rattle.flips.proofs.words.unflip.Statement.{statement}
 use Rattle.flips.proofs.words.unflip.Tie as tie
