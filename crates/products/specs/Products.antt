@@ -10,6 +10,11 @@ use Rattle.word.specs.Index.{index_count, goes_past}
 abbrev pub product_added : List ℕ → ℕ → ℕ → ℕ
 product_added columns added i = plus 2 (product 2 columns i) added
 
+-- the products with the indexes from start on, in every word of a buffer; one that would go past the last index is left as it was
+abbrev pub products_filled : List ℕ → (added start : ℕ) → List ℕ → List ℕ
+products_filled columns added start old =
+    cond (goes_past index_count start (length old)) old (map (product_added columns added) (range start (length old)))
+
 -- a word of 32 bits with a mask added without carries: the one that its t leading bits choose
 abbrev pub masked : (t : ℕ) → List ℕ → ℕ → ℕ
 masked t masks w = plus 2 w (get_or masks (top 2 32 t w) 0)

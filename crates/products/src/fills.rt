@@ -3,7 +3,7 @@ ghost use Rattle.std.specs.Prelude.{◌≡◌, map, ◌+◌, ◌%◌, ◌^◌, �
 ghost use Rattle.ranges.specs.Range.{range};
 ghost use Rattle.word.specs.Index.{index_bits, index_count};
 ghost use Rattle.word.specs.Prefix.{prefixes};
-ghost use Rattle.products.specs.Products.{product_added, product_masked, group_size, group_tables, indexes_filled};
+ghost use Rattle.products.specs.Products.{product_added, products_filled, product_masked, group_size, group_tables, indexes_filled};
 
 use crate::groups::{GROUP, in_groups};
 use crate::masking::mask_all;
@@ -26,7 +26,7 @@ pub const LONG: usize = 2 * TABLES;
 // Fills a buffer with the products of a generator matrix with the indexes from start on, a word added to each. A buffer that would go past
 // the last index is left as it was.
 pub fn fill(columns: Columns, added: u32, start: Index, out: &mut [u32])
-    ensures { out.new ≡ indexes_filled (product_added columns added) start out.old }
+    ensures { out.new ≡ products_filled columns added start out.old }
 {
     if word::goes_past(start, out.len() as u64) {
         return;
@@ -43,7 +43,8 @@ pub fn fill(columns: Columns, added: u32, start: Index, out: &mut [u32])
 pub fn fill_masked(columns: Columns, masks: Masks, start: Index, out: &mut [u32])
     ensures { out.new ≡ indexes_filled (product_masked 8 masks columns) start out.old }
 {
-    if word::goes_past(start, out.len() as u64) {
+    let count = out.len() as u64;
+    if word::goes_past(start, count) {
         return;
     }
     fill(columns, 0, start, out);
@@ -55,7 +56,8 @@ pub fn fill_masked(columns: Columns, masks: Masks, start: Index, out: &mut [u32]
 pub fn fill_by_tables(columns: Columns, masks: Masks, start: Index, out: &mut [u32])
     ensures { out.new ≡ indexes_filled (product_masked 8 masks columns) start out.old }
 {
-    if word::goes_past(start, out.len() as u64) {
+    let count = out.len() as u64;
+    if word::goes_past(start, count) {
         return;
     }
     let sums = word::prefixes(columns);

@@ -1,0 +1,19 @@
+// A buffer of products flipped and shifted in place: the flips are read 256 times, and not once for each word.
+ghost use Rattle.std.specs.Prelude.{◌≡◌, map};
+ghost use Rattle.flips.specs.Scramble.{scramble_word};
+
+use crate::AxisFlips;
+use crate::words::masks;
+
+// Makes the flips and adds the shift in every word.
+pub fn scramble_all(flips: AxisFlips, shift: u32, words: &mut [u32])
+    ensures { words.new ≡ map (scramble_word flips shift) words.old }
+{
+    let masks = masks(flips, shift);
+    let mut k = 0;
+    while k < words.len() {
+        let word = words[k];
+        words[k] = word ^ masks[(word / 16777216) as usize];
+        k += 1;
+    }
+}
