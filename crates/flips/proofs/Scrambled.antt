@@ -42,6 +42,9 @@ module _ (flips : List ℕ) (s : ℕ) where
       let z : 0 + w / 2 ^ 24 ≡ w / 2 ^ 24 = omega arith in
       ap (plus 2 w) (getD_each (mask flips s) 0 256 (w / 2 ^ 24) 0 l ∙ ap (mask flips s) z) ∙ sym (masked w h)
 
+  pub by_mask-xor : (w : ℕ) → w < 2 ^ 32 → bit_xor w (get_or (map (mask flips s) (range 0 256)) (w / 2 ^ 24) 0) ≡ scramble_word flips s w
+  by_mask-xor w h = sym (plus-two w (get_or (map (mask flips s) (range 0 256)) (w / 2 ^ 24) 0)) ∙ by_mask w h
+
   pub shifted-after : (w : ℕ) {x : ℕ} → x ≡ flipped flips w → bit_xor x s ≡ scramble_word flips s w
   shifted-after w {x} e = sym (plus-two x s) ∙ ap (λ (y : ℕ). plus 2 y s) e
 
