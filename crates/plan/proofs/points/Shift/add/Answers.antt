@@ -6,17 +6,13 @@ use Rattle.flips.specs.Load.{no_flips}
 use Rattle.flips.proofs.Scrambled.{only-shifted}
 use Rattle.flips.proofs.Theorem as flips
 use Rattle.plan.proofs.Laws.{both}
-use Rattle.plan.proofs.points.Shift.add.Statement.{statement}
-use Rattle.plan.proofs.points.Shift.add.Tie as tie
+use Rattle.plan.proofs.points.Shift.add.Goals as goal
 
-returns : tie.Need-returns
+pub returns : goal.returns
 returns c =
-    let a = c.before.before.before.before.args in
+    let a = c.args in
     let fx : Fits w32 a.products.x = search rules in
     let fy : Fits w32 a.products.y = search rules in
     both
     (only-shifted no_flips.x a.self.x (flips.theorems).none_set.0 a.products.x fx.fits)
     (only-shifted no_flips.y a.self.y (flips.theorems).none_set.1 a.products.y fy.fits)
-
-pub add_spec : {M : Type 1} → statement M
-add_spec = tie.close (tie.spec returns)

@@ -1,0 +1,10 @@
+-- `Plan::scrambled_standard_point`: the products, and what follows them.
+use mathlib.Core.Path.{ap, ◌∙◌}
+use Rattle.net.specs.Scrambling.{scrambled_point}
+use Rattle.plan.specs.Pair.{scrambling}
+use Rattle.plan.proofs.pair.Plan.scrambled_standard_point.Goals as goal
+
+pub returns : goal.returns
+returns c =
+    let s = c.args.scramble in
+    c.scramble.ensures ∙ ap (scrambled_point (scrambling s)) c.standard_products.ensures
