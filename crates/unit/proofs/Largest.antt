@@ -97,6 +97,7 @@ negative_le m n e g = go (m * up e * down g) (n * up g * down e)
   where
     or_l : (p q : Bool) → T p → T (p || q)
     or_l true q t = tt
+    or_l false q t = elim t [ ]
 
     go : (a b : ℕ) → T (ltb 0 (a + b) || (eqb a b && (false || eqb a 0)))
     go zero zero = tt

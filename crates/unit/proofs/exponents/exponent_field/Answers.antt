@@ -1,0 +1,138 @@
+-- `exponent_field`: each arm has the entry of its z. The last arm's z is none of 0 to 32, and there is no such z.
+use mathlib.Core.Path.{sym, ap}
+use native.Mathlib.Omega.{arith}
+use Rattle.unit.specs.Parts.{exponent_field, exponent_fields}
+use Rattle.unit.proofs.Table.{none_below}
+use Rattle.unit.proofs.exponents.exponent_field.Goals as goal
+
+pub returns-in-0 : goal.returns-in-0
+unfolding exponent_fields
+returns-in-0 c = ap exponent_field (sym c.in-0.is)
+
+pub returns-in-1 : goal.returns-in-1
+unfolding exponent_fields
+returns-in-1 c = ap exponent_field (sym c.in-1.is)
+
+pub returns-in-2 : goal.returns-in-2
+unfolding exponent_fields
+returns-in-2 c = ap exponent_field (sym c.in-2.is)
+
+pub returns-in-3 : goal.returns-in-3
+unfolding exponent_fields
+returns-in-3 c = ap exponent_field (sym c.in-3.is)
+
+pub returns-in-4 : goal.returns-in-4
+unfolding exponent_fields
+returns-in-4 c = ap exponent_field (sym c.in-4.is)
+
+pub returns-in-5 : goal.returns-in-5
+unfolding exponent_fields
+returns-in-5 c = ap exponent_field (sym c.in-5.is)
+
+pub returns-in-6 : goal.returns-in-6
+unfolding exponent_fields
+returns-in-6 c = ap exponent_field (sym c.in-6.is)
+
+pub returns-in-7 : goal.returns-in-7
+unfolding exponent_fields
+returns-in-7 c = ap exponent_field (sym c.in-7.is)
+
+pub returns-in-8 : goal.returns-in-8
+unfolding exponent_fields
+returns-in-8 c = ap exponent_field (sym c.in-8.is)
+
+pub returns-in-9 : goal.returns-in-9
+unfolding exponent_fields
+returns-in-9 c = ap exponent_field (sym c.in-9.is)
+
+pub returns-in-10 : goal.returns-in-10
+unfolding exponent_fields
+returns-in-10 c = ap exponent_field (sym c.in-10.is)
+
+pub returns-in-11 : goal.returns-in-11
+unfolding exponent_fields
+returns-in-11 c = ap exponent_field (sym c.in-11.is)
+
+pub returns-in-12 : goal.returns-in-12
+unfolding exponent_fields
+returns-in-12 c = ap exponent_field (sym c.in-12.is)
+
+pub returns-in-13 : goal.returns-in-13
+unfolding exponent_fields
+returns-in-13 c = ap exponent_field (sym c.in-13.is)
+
+pub returns-in-14 : goal.returns-in-14
+unfolding exponent_fields
+returns-in-14 c = ap exponent_field (sym c.in-14.is)
+
+pub returns-in-15 : goal.returns-in-15
+unfolding exponent_fields
+returns-in-15 c = ap exponent_field (sym c.in-15.is)
+
+pub returns-in-16 : goal.returns-in-16
+unfolding exponent_fields
+returns-in-16 c = ap exponent_field (sym c.in-16.is)
+
+pub returns-in-17 : goal.returns-in-17
+unfolding exponent_fields
+returns-in-17 c = ap exponent_field (sym c.in-17.is)
+
+pub returns-in-18 : goal.returns-in-18
+unfolding exponent_fields
+returns-in-18 c = ap exponent_field (sym c.in-18.is)
+
+pub returns-in-19 : goal.returns-in-19
+unfolding exponent_fields
+returns-in-19 c = ap exponent_field (sym c.in-19.is)
+
+pub returns-in-20 : goal.returns-in-20
+unfolding exponent_fields
+returns-in-20 c = ap exponent_field (sym c.in-20.is)
+
+pub returns-in-21 : goal.returns-in-21
+unfolding exponent_fields
+returns-in-21 c = ap exponent_field (sym c.in-21.is)
+
+pub returns-in-22 : goal.returns-in-22
+unfolding exponent_fields
+returns-in-22 c = ap exponent_field (sym c.in-22.is)
+
+pub returns-in-23 : goal.returns-in-23
+unfolding exponent_fields
+returns-in-23 c = ap exponent_field (sym c.in-23.is)
+
+pub returns-in-24 : goal.returns-in-24
+unfolding exponent_fields
+returns-in-24 c = ap exponent_field (sym c.in-24.is)
+
+pub returns-in-25 : goal.returns-in-25
+unfolding exponent_fields
+returns-in-25 c = ap exponent_field (sym c.in-25.is)
+
+pub returns-in-26 : goal.returns-in-26
+unfolding exponent_fields
+returns-in-26 c = ap exponent_field (sym c.in-26.is)
+
+pub returns-in-27 : goal.returns-in-27
+unfolding exponent_fields
+returns-in-27 c = ap exponent_field (sym c.in-27.is)
+
+pub returns-in-28 : goal.returns-in-28
+unfolding exponent_fields
+returns-in-28 c = ap exponent_field (sym c.in-28.is)
+
+pub returns-in-29 : goal.returns-in-29
+unfolding exponent_fields
+returns-in-29 c = ap exponent_field (sym c.in-29.is)
+
+pub returns-in-30 : goal.returns-in-30
+unfolding exponent_fields
+returns-in-30 c = ap exponent_field (sym c.in-30.is)
+
+pub returns-in-31 : goal.returns-in-31
+unfolding exponent_fields
+returns-in-31 c = ap exponent_field (sym c.in-31.is)
+
+pub returns-in-32 : goal.returns-in-32
+unfolding exponent_fields
+returns-in-32 c = ap exponent_field (sym c.in-32.is)
