@@ -151,6 +151,7 @@ once further file e n i = chain_once (loader_tests further file) file n i most_r
 -- a visit is among those that have its own record number and index, and these are among all
 among_own : (v : FileVisit) (vs : List FileVisit) → Among v vs → Among v (visits_at v.number v.index vs)
 unfolding visits_at
+among_own v [] x = elim x [ ]
 among_own v (w ∷ ws) (inl e) =
     let number : w.number ≡ v.number = ap (λ (u : FileVisit). u.number) (sym e) in
     let index : w.index ≡ v.index = ap (λ (u : FileVisit). u.index) (sym e) in

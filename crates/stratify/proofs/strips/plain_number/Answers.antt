@@ -1,0 +1,36 @@
+-- `plain_number`: the strips of both axes, joined whole.
+use mathlib.Core.Path.{◌≡◌, ap₂, ◌∙◌}
+use Prim.Native.Nat.{ℕ, ◌+◌, ◌-◌, ◌*◌, ◌^◌}
+use native.Mathlib.Omega.{arith}
+use borrow.Author.Rules.{rules}
+use mir.Syntax.{w32}
+use mir.Val.{Fits}
+use Rattle.net.specs.Elimination.{serial}
+use Rattle.word.proofs.Joined.{joined-whole}
+use Rattle.stratify.specs.Strips.{plain_number}
+use Rattle.stratify.proofs.LedBack.{strip_lt, number_lt}
+use Rattle.stratify.proofs.strips.plain_number.Goals as goal
+use Rattle.stratify.proofs.strips.plain_number.Goals.{After-plain_strip-r}
+
+-- the two strips by column and row
+made : (c : goal.After-plain_strip-r) → let a = c.args in
+    c.plain_strip-c.result * 2 ^ (a.m - a.a) + c.plain_strip-r.result ≡ plain_number a.scramble a.m a.a a.column a.row
+unfolding serial
+made c =
+    let a = c.args in
+    ap₂ (λ (u v : ℕ). u * 2 ^ (a.m - a.a) + v) c.plain_strip-c.ensures c.plain_strip-r.ensures
+
+pub plain_strip-c-requires : goal.plain_strip-c-requires
+plain_strip-c-requires c = let (wide, size, hc, hr) = c.requires in (omega arith, hc)
+
+pub returns : goal.returns
+unfolding serial
+returns c =
+    let a = c.args in
+    let fx : Fits w32 a.scramble.shift.x = search rules in
+    let fy : Fits w32 a.scramble.shift.y = search rules in
+    let (wide, size, hc, hr) = c.requires in
+    let small = number_lt a.m a.a _ _ wide size
+    (strip_lt a.scramble.flips.x a.scramble.shift.x a.a a.column (omega arith) hc fx.fits)
+    (strip_lt a.scramble.flips.y a.scramble.shift.y (a.m - a.a) a.row (omega arith) hr fy.fits) in
+    joined-whole _ _ _ c.join.ensures (rw (made (goal.at.returns c).After-plain_strip-r) small) ∙ made (goal.at.returns c).After-plain_strip-r
