@@ -1,0 +1,13 @@
+-- `sheet_pieces::sheet_piece_words`: the piece of the sheet, between cursors that are those of the words (`piece_same`).
+-- Assumes nothing.
+use mathlib.Core.Path.{sym}
+use Rattle.cursor_words.proofs.Same.{piece_same}
+use Rattle.cursor_words.proofs.sheet_pieces.sheet_piece_words.Goals as goal
+
+pub returns : goal.returns
+returns c =
+    let same = piece_same c.sheet_cursor_of-start.ensures (sym c.words_of_sheet_cursor-past.ensures) c.piece-piece.ensures.piece in record {
+      counts = c.piece-piece.ensures.counts;
+      piece = same;
+      rest = c.piece-piece.ensures.rest;
+    }
