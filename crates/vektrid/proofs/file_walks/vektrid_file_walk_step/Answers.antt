@@ -10,8 +10,7 @@ use mir.Val.{SFits, to_z, of_z}
 use mir.ValLaws.{to_z-of_z}
 use Rattle.visits.specs.declared.file_walks.FileVisit.{FileVisit}
 use Rattle.file_words.specs.FileWalks.{visits_by_words, visit_words, visit_left}
-use Rattle.vektrid.proofs.file_walks.vektrid_file_walk_step.Statement.{statement}
-use Rattle.vektrid.proofs.file_walks.vektrid_file_walk_step.Tie as tie
+use Rattle.vektrid.proofs.file_walks.vektrid_file_walk_step.Goals as goal
 
 -- a number as the machine stores it and reads it back
 abbrev read : ℤ → ℤ
@@ -25,20 +24,14 @@ read_back vs n i x y k j u v fx fy fu fv e =
     ap₂ (visit_words n i) (to_z-of_z w32 x fx) (to_z-of_z w32 y fy) ∙ e
     ∙ ap₂ (λ (u v : ℤ). visit_left vs (visit_words k j u v)) (to_z-of_z w32 u fu) (to_z-of_z w32 v fv)
 
-step-words-requires : tie.Need-step-words-requires
-step-words-requires c κs = search rules
-
-returns : tie.Need-returns
+pub returns : goal.returns
 returns c =
-    let t = c.before.before.before in
-    let a = t.before.before.before.before.before.before.before.args in
-    let v = t.step_words.result in
-    let e = t.step_words.ensures in
-    let last = c.struct-told2.given.1.1.1 in
+    let a = c.args in
+    let v = c.step_words-stepped.result in
     let visit = read_back (visits_by_words a.file.now a.walk.now)
-    v.number v.index v.x v.y a.record-number.now a.index.now
-    a.at_x.now a.at_y.now (search rules) (search rules) (search rules) (search rules) e.1.1 in
-    (e.0, (e.1.0, visit))
-
-pub vektrid-file-walk-step-spec : {M : Type 1} → statement M
-vektrid-file-walk-step-spec = tie.close (tie.spec step-words-requires returns)
+    v.number v.index v.x v.y a.record_number.now a.index.now
+    a.at_x.now a.at_y.now (search rules) (search rules) (search rules) (search rules) c.step_words-stepped.ensures.visit in record {
+      walk = c.step_words-stepped.ensures.walk;
+      given = c.step_words-stepped.ensures.given;
+      visit = visit;
+    }
