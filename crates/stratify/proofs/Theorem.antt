@@ -27,7 +27,6 @@ use Rattle.net.specs.Query.{locate}
 use Rattle.net.specs.Net.{Net}
 use Rattle.net.specs.Answers.{LocateDecides, CheckDecides}
 use Rattle.net.specs.Run.{Visit, visit, visits, run, hits}
-use Rattle.net.specs.Standard.{standard}
 use Rattle.net.proofs.Least.{least_index-least}
 use Rattle.net.proofs.Check.{nonzero}
 use Rattle.net.proofs.Query.{locate-found, locate-same}

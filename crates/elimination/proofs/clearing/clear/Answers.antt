@@ -1,6 +1,5 @@
 -- `clear`: from c up to the part at hand the words are cleared, and from there on nothing has changed.
 use mathlib.Core.Path.{sym, ◌∙◌}
-use Prim.Native.Nat.{◌-◌}
 use native.Mathlib.Omega.{arith}
 use Rattle.elimination.proofs.Entries.{parts_none, parts_more, fewer}
 use Rattle.elimination.proofs.clearing.clear.Goals as goal

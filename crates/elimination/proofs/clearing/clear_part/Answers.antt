@@ -1,6 +1,6 @@
 -- `clear_part`: up to the entry at hand the part is cleared, and from there on nothing has changed.
 use mathlib.Core.Path.{◌≡◌, sym, ◌∙◌}
-use Prim.Native.Nat.{◌+◌, ◌-◌}
+use Prim.Native.Nat.{◌+◌}
 use native.Mathlib.Omega.{arith}
 use Rattle.elimination.proofs.Entries.{clearing_none, clearing_more}
 use Rattle.elimination.proofs.clearing.clear_part.Goals as goal

@@ -1,6 +1,5 @@
 -- `unit_words`: after t turns the first t words are there.
 use mathlib.Core.Path.{◌≡◌, refl}
-use Prim.Native.Nat.{◌-◌}
 use native.Mathlib.Omega.{arith}
 use Rattle.word.proofs.Turn.{one_shifted}
 use Rattle.elimination.proofs.Entries.{putting_none, putting_more}

@@ -1,6 +1,6 @@
 -- `solve_units`: after c turns the first c columns are a basis of the model, and the columns after them and the unit words are cleared by it.
 use mathlib.Core.Path.{refl, sym, ◌∙◌}
-use Prim.Native.Nat.{◌-◌, ◌^◌}
+use Prim.Native.Nat.{◌^◌}
 use native.Mathlib.Omega.{arith}
 use borrow.Author.Rules.{rules}
 use lib.ListN.{get_or, get_or-replicate}

@@ -1,7 +1,7 @@
 -- `scramble` meets its contract: for whatever flips the masks are, the front is scramble_word. Assumes nothing.
 use mathlib.Core.Path.{◌≡◌}
 use mathlib.Core.List.{List, ◌++◌, map}
-use Prim.Native.Nat.{ℕ, ◌+◌, ◌-◌, ◌≤◌}
+use Prim.Native.Nat.{ℕ, ◌-◌, ◌≤◌}
 use lib.ListN.{length, take, drop}
 use Rattle.ranges.specs.Range.{range}
 use Rattle.flips.specs.Scramble.{scramble_word, mask}

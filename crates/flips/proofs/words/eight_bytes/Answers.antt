@@ -34,20 +34,6 @@ eight f a b c d e g h i (suc (suc (suc (suc (suc (suc zero)))))) l = h
 eight f a b c d e g h i (suc (suc (suc (suc (suc (suc (suc zero))))))) l = i
 eight f a b c d e g h i (suc (suc (suc (suc (suc (suc (suc (suc k)))))))) l = absurd (omega arith)
 
-
-
-
-
-
-
-
-
-
-
-
-
-
-
 pub returns : goal.returns
 returns c =
     let flips = c.args.flips in

@@ -1,5 +1,5 @@
 -- `row`: the entries in the columns from c on are the bits of the word.
-use Prim.Native.Nat.{◌-◌, ◌≤◌}
+use Prim.Native.Nat.{◌≤◌}
 use Rattle.net.specs.Generators.{entry}
 use Rattle.minors.proofs.Transposed.{From}
 use Rattle.minors.proofs.rows.row.Given as goal

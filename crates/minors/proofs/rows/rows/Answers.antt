@@ -1,6 +1,5 @@
 -- `rows`: after r turns the first r rows stand.
 use mathlib.Core.Path.{refl}
-use Prim.Native.Nat.{◌-◌}
 use native.Mathlib.Omega.{arith}
 use lib.ListN.{length-set}
 use Rattle.ranges.proofs.Written.{written}

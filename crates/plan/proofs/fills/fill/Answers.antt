@@ -76,7 +76,7 @@ returns c =
     record {
       answer = sym o;
       first = c.fill_axes.ensures.first ∙ ap (axis a.plan.x a.shift.x a.start (length a.xs.now)) (ap (λ (g : Flips). g.x) (are (goal.at.returns c).In-Accepted))
-            ∙ sym (ap (λ (b : Buffers). b.x) w);
+          ∙ sym (ap (λ (b : Buffers). b.x) w);
       second = c.fill_axes.ensures.second ∙ ap (axis a.plan.y a.shift.y a.start (length a.ys.now)) (ap (λ (g : Flips). g.y) (are (goal.at.returns c).In-Accepted))
-            ∙ sym (ap (λ (b : Buffers). b.y) w);
+          ∙ sym (ap (λ (b : Buffers). b.y) w);
     }

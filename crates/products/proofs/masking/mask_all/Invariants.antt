@@ -1,7 +1,7 @@
 -- `mask_all`: the words so far are masked.
 use mathlib.Core.Path.{◌≡◌}
 use mathlib.Core.List.{◌++◌, map}
-use Prim.Native.Nat.{◌+◌, ◌-◌, ◌≤◌}
+use Prim.Native.Nat.{◌-◌, ◌≤◌}
 use lib.ListN.{length, take, drop}
 use Rattle.products.specs.Products.{masked}
 use Rattle.products.proofs.masking.mask_all.Given as goal

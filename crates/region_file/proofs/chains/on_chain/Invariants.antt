@@ -1,7 +1,7 @@
 -- `chains::on_chain`. The loop's invariant: n is one of the numbers still to be followed exactly when it is on the chain.
 -- Assumes nothing.
 use mathlib.Core.Path.{◌≡◌}
-use Prim.Native.Nat.{◌-◌, ◌^◌, ◌≤◌, ◌<◌}
+use Prim.Native.Nat.{◌^◌, ◌≤◌, ◌<◌}
 use Rattle.region_file.specs.Records.{most_records}
 use Rattle.region_file.specs.Chain.{numbers, member, on_chain}
 use Rattle.region_file.proofs.chains.on_chain.Given as goal

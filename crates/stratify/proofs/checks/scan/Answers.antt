@@ -1,6 +1,6 @@
 -- `scan`: no shape before (m, a) has an even determinant.
 use mathlib.Core.Path.{sym, ap}
-use Prim.Native.Nat.{◌-◌, ◌≤◌}
+use Prim.Native.Nat.{◌≤◌}
 use native.Mathlib.Omega.{arith}
 use Rattle.linear.proofs.Prime.{two}
 use Rattle.net.specs.Shape.{Shape}

@@ -1,13 +1,12 @@
 -- `put_indexes`: the front of the list is made of products.
 use mathlib.Core.Path.{◌≡◌, refl, sym, ap, ◌∙◌}
 use mathlib.Core.List.{List, ◌++◌, map}
-use Prim.Native.Nat.{ℕ, ◌+◌, ◌-◌, ◌<◌}
+use Prim.Native.Nat.{ℕ, ◌<◌}
 use native.Mathlib.Numerals.{add-one}
 use native.Mathlib.Omega.{arith}
 use lib.Bits.{bit_xor}
 use lib.ListN.{length, get_or, set, take, drop, length-set}
 use Rattle.ranges.proofs.Mapped.{map-step, map_next, map_whole}
-use Rattle.net.specs.Generators.{product}
 use Rattle.stratify.proofs.overviews.put_indexes.Invariants.{index}
 use Rattle.stratify.proofs.overviews.put_indexes.Goals as goal
 

@@ -1,7 +1,7 @@
 -- `put_indexes`: the front of the list is made of products.
 use mathlib.Core.Path.{◌≡◌}
 use mathlib.Core.List.{List, ◌++◌, map}
-use Prim.Native.Nat.{ℕ, ◌+◌, ◌-◌, ◌≤◌}
+use Prim.Native.Nat.{ℕ, ◌-◌, ◌≤◌}
 use lib.Bits.{bit_xor}
 use lib.ListN.{length, take, drop}
 use Rattle.net.specs.Generators.{product}

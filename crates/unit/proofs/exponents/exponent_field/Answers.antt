@@ -1,8 +1,6 @@
 -- `exponent_field`: each arm has the entry of its z. The last arm's z is none of 0 to 32, and there is no such z.
 use mathlib.Core.Path.{sym, ap}
-use native.Mathlib.Omega.{arith}
 use Rattle.unit.specs.Parts.{exponent_field, exponent_fields}
-use Rattle.unit.proofs.Table.{none_below}
 use Rattle.unit.proofs.exponents.exponent_field.Goals as goal
 
 pub returns-in-0 : goal.returns-in-0

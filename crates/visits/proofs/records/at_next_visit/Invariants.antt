@@ -2,7 +2,7 @@
 -- that count.
 -- Assumes nothing.
 use mathlib.Core.Path.{◌≡◌}
-use Prim.Native.Nat.{◌-◌, ◌^◌, ◌≤◌, ◌<◌}
+use Prim.Native.Nat.{◌^◌, ◌≤◌, ◌<◌}
 use Rattle.region_file.specs.Records.{most_records}
 use Rattle.visits.specs.FileWalk.{visits_from, links_counted}
 use Rattle.visits.proofs.records.at_next_visit.Given as goal

@@ -1,6 +1,5 @@
 -- `product`: the sum so far and the product of the columns to come add up to the product.
 use mathlib.Core.Path.{sym, ◌∙◌}
-use Prim.Native.Nat.{◌-◌}
 use native.Mathlib.Omega.{arith}
 use borrow.Author.Rules.{rules}
 use Rattle.digits.proofs.Arithmetic.{zero-plus}

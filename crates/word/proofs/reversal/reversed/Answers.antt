@@ -1,7 +1,7 @@
 -- `reversed`: after k turns the sum is the reversal of the lowest k bytes, and the rest are the bytes above them.
 -- That the table holds the reversed bytes is one computed test, where the loop begins.
 use mathlib.Core.Path.{◌≡◌, refl}
-use Prim.Native.Nat.{◌+◌, ◌*◌, ◌%◌, ◌-◌}
+use Prim.Native.Nat.{◌+◌, ◌*◌, ◌%◌}
 use native.Mathlib.Omega.{arith}
 use Rattle.ranges.specs.Range.{range}
 use Rattle.digits.specs.Digits.{from_digits, reversed}

@@ -1,5 +1,5 @@
 -- `identity_columns`: after c turns the first c columns stand, and the word is column c.
-use Prim.Native.Nat.{◌/◌, ◌-◌}
+use Prim.Native.Nat.{◌/◌}
 use native.Mathlib.Omega.{arith}
 use Rattle.ranges.proofs.Filled.{running_none, running_more, filled_all}
 use Rattle.digits.proofs.Two.{one_lt_two}

@@ -1,6 +1,6 @@
 -- `pascal_columns`: as for the identity, with a step that adds the word a row further down.
 use mathlib.Core.Path.{◌≡◌, ◌∙◌}
-use Prim.Native.Nat.{ℕ, suc, ◌/◌, ◌-◌}
+use Prim.Native.Nat.{ℕ, suc, ◌/◌}
 use native.Mathlib.Omega.{arith}
 use lib.Bits.{bit_xor}
 use Rattle.ranges.proofs.Filled.{running_none, running_more, filled_all}

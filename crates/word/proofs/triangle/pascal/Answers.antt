@@ -1,7 +1,6 @@
 -- `pascal`: the steps to come, done to the present word, give the product.
 -- That the five steps send each column of the identity to that of Pascal's triangle is one computed test, where the loop begins.
 use mathlib.Core.Path.{refl, sym, ◌∙◌}
-use Prim.Native.Nat.{◌-◌}
 use native.Mathlib.Omega.{arith}
 use borrow.Author.Rules.{rules}
 use mir.Syntax.{w32}

@@ -1,7 +1,7 @@
 -- `Cursor::piece`: the lead's text and the lines put behind it are what was to come, up to what is to come from the next cursor.
 use mathlib.Core.Path.{◌≡◌, refl, sym, ap, ◌∙◌}
 use mathlib.Core.List.{[], ◌++◌}
-use Prim.Native.Nat.{◌+◌, zero-le}
+use Prim.Native.Nat.{zero-le}
 use native.Mathlib.Nat.{zero-add}
 use native.Mathlib.Omega.{arith}
 use lib.ListN.{length, take}

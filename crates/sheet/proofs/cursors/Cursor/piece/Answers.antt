@@ -1,6 +1,6 @@
 -- `Cursor::piece`: what stands in the buffer, with the text to come, stays the same, line by line.
 -- Assumes nothing.
-use Rattle.std.proofs.Common.{◌≡◌, ℕ, ◌+◌, ◌-◌, ◌<◌, ◌≤◌, ◌⊎◌, List, [], ◌++◌, length, take, sym, refl, ap, ◌∙◌, subst, inl, inr, zero-le, arith, length-take-le}
+use Rattle.std.proofs.Common.{◌≡◌, ℕ, ◌+◌, ◌<◌, ◌≤◌, ◌⊎◌, List, [], ◌++◌, length, take, sym, refl, ap, ◌∙◌, subst, inl, inr, zero-le, arith, length-take-le}
 use Rattle.text.proofs.Puts.{writes_keeps_length}
 use Rattle.text.proofs.Filling.{joined, beyond}
 use Rattle.listing.specs.Listing.{longest_line}
