@@ -28,83 +28,101 @@ pub enum Section {
     SecondVisits,
 }
 
-pub fn lines(section: Section, count: u32) {
-    let mut i = 0u32;
-    while i < count {
-        line(section, i);
-        i += 1;
+pub fn lines(out: &impl Print, section: Section, count: u32) {
+    for i in 0..count {
+        line(out, section, i);
     }
 }
 
-fn line(section: Section, i: u32) {
+fn line(out: &impl Print, section: Section, i: u32) {
     match section {
-        Section::Standard => standard_line(pairs::no_shift(), i),
-        Section::StandardShifted => standard_line(pairs::first_shift(), i),
-        Section::Other => other_line(pairs::no_shift(), i),
-        Section::OtherShifted => other_line(pairs::other_shift(), i),
-        Section::GapX => gap_x_line(i),
-        Section::GapY => gap_y_line(i),
-        Section::SumX => sum_line(i),
-        Section::Cells { m } => cell_line(m, i),
-        Section::Largest => query_line(pairs::other(), pairs::other_shift(), 32, 32, i, 0, 0, 0),
-        Section::Units => units::unit_line(i),
-        Section::Flipped => other_line(pairs::flipped(), i),
+        Section::Standard => standard_line(out, pairs::no_shift(), i),
+        Section::StandardShifted => standard_line(out, pairs::first_shift(), i),
+        Section::Other => other_line(out, pairs::no_shift(), i),
+        Section::OtherShifted => other_line(out, pairs::other_shift(), i),
+        Section::GapX => gap_x_line(out, i),
+        Section::GapY => gap_y_line(out, i),
+        Section::SumX => sum_line(out, i),
+        Section::Cells { m } => cell_line(out, m, i),
+        Section::Largest => query_line(
+            out,
+            pairs::other(),
+            pairs::other_shift(),
+            32,
+            32,
+            i,
+            0,
+            0,
+            0,
+        ),
+        Section::Units => units::unit_line(out, i),
+        Section::Flipped => other_line(out, pairs::flipped(), i),
         Section::FlippedCells => {
-            query_line(pairs::other(), pairs::flipped(), 32, 4, 2, i / 4, i % 4, 5)
+            query_line(
+                out,
+                pairs::other(),
+                pairs::flipped(),
+                32,
+                4,
+                2,
+                i / 4,
+                i % 4,
+                5,
+            )
         }
-        Section::FirstVisits => positions::first_visit_line(i),
-        Section::SecondVisits => positions::second_visit_line(i),
+        Section::FirstVisits => positions::first_visit_line(out, i),
+        Section::SecondVisits => positions::second_visit_line(out, i),
     }
 }
 
 // The fast way, which is promised to be the matrix way.
-fn standard_line(scramble: Scramble, index: u32) {
+fn standard_line(out: &impl Print, scramble: Scramble, index: u32) {
     let flips = scramble.flips;
     let x = flips.x;
     let y = flips.y;
-    print::number(index);
-    print::pointed_line(Plan::standard_point(scramble.shift, &x, &y, index));
+    print::number(out, index);
+    print::pointed_line(out, Plan::standard_point(scramble.shift, &x, &y, index));
 }
 
-fn other_line(scramble: Scramble, index: u32) {
+fn other_line(out: &impl Print, scramble: Scramble, index: u32) {
     let plan = pairs::other();
     let flips = scramble.flips;
     let x = flips.x;
     let y = flips.y;
-    print::number(index);
-    print::pointed_line(plan.point(scramble.shift, &x, &y, index));
+    print::number(out, index);
+    print::pointed_line(out, plan.point(scramble.shift, &x, &y, index));
 }
 
-fn gap_x_line(c: u32) {
-    gap_line(b"gap-x ", 0, c);
+fn gap_x_line(out: &impl Print, c: u32) {
+    gap_line(out, b"gap-x ", 0, c);
 }
 
-fn gap_y_line(c: u32) {
-    gap_line(b"gap-y ", 32, c);
+fn gap_y_line(out: &impl Print, c: u32) {
+    gap_line(out, b"gap-y ", 32, c);
 }
 
-fn gap_line(name: &[u8], first: u32, c: u32) {
+fn gap_line(out: &impl Print, name: &[u8], first: u32, c: u32) {
     let mut words = pairs::standard_words();
     words[((first as u64 + c as u64) % 64) as usize] = 0;
-    print::text(name);
-    print::number(c);
-    print::number(32);
-    print::judgement_line(stratify::check(&words, 32), b"passed");
+    print::text(out, name);
+    print::number(out, c);
+    print::number(out, 32);
+    print::judgement_line(out, stratify::check(&words, 32), b"passed");
 }
 
 // The sum without carries of the first c columns of the identity has the top c bits.
-fn sum_line(c: u32) {
+fn sum_line(out: &impl Print, c: u32) {
     let mut words = pairs::standard_words();
     let at = c % 32;
     words[at as usize] = ((4294967295u64 << (32 - at)) % 4294967296) as u32;
-    print::text(b"sum-x ");
-    print::number(c);
-    print::number(32);
-    print::judgement_line(stratify::check(&words, 32), b"passed");
+    print::text(out, b"sum-x ");
+    print::number(out, c);
+    print::number(out, 32);
+    print::judgement_line(out, stratify::check(&words, 32), b"passed");
 }
 
 // Shapes with a rising, cells column after column, and each in two blocks.
-fn cell_line(m: u32, i: u32) {
+fn cell_line(out: &impl Print, m: u32, i: u32) {
     if m > 4 {
         return;
     }
@@ -116,6 +134,7 @@ fn cell_line(m: u32, i: u32) {
     let cell = i / 2 % cells;
     let rows = 1u32 << (m - a);
     query_line(
+        out,
         pairs::other(),
         pairs::other_shift(),
         32,
@@ -128,6 +147,7 @@ fn cell_line(m: u32, i: u32) {
 }
 
 pub fn query_line(
+    out: &impl Print,
     plan: Plan,
     scramble: Scramble,
     level: u32,
@@ -137,11 +157,11 @@ pub fn query_line(
     row: u32,
     block: u32,
 ) {
-    print::number(m);
-    print::number(a);
-    print::number(column);
-    print::number(row);
-    print::number(block);
+    print::number(out, m);
+    print::number(out, a);
+    print::number(out, column);
+    print::number(out, row);
+    print::number(out, block);
     let flips = scramble.flips;
     let x = flips.x;
     let y = flips.y;
@@ -159,9 +179,9 @@ pub fn query_line(
     );
     match answer {
         Located::Found(index) => {
-            print::text(b"found ");
-            print::last_number(index);
+            print::text(out, b"found ");
+            print::last_number(out, index);
         }
-        Located::Refused(why) => print::refusal_line(why),
+        Located::Refused(why) => print::refusal_line(out, why),
     }
 }

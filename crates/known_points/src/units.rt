@@ -25,30 +25,30 @@ fn bits(number: Unit) -> u64 {
     }
 }
 
-fn singles_line(at: Singles) {
-    print::number(single_bits(at.x));
-    print::last_number(single_bits(at.y));
+fn singles_line(out: &impl Print, at: Singles) {
+    print::number(out, single_bits(at.x));
+    print::last_number(out, single_bits(at.y));
 }
 
 // The singles of an index, or the line of their refusal.
-pub fn pointed_singles_line(answer: PointedSingles) {
+pub fn pointed_singles_line(out: &impl Print, answer: PointedSingles) {
     match answer {
-        PointedSingles::At(at) => singles_line(at),
-        PointedSingles::Refused(why) => print::refusal_line(why),
+        PointedSingles::At(at) => singles_line(out, at),
+        PointedSingles::Refused(why) => print::refusal_line(out, why),
     }
 }
 
 // Three lines for each power p of two, p - 1, p and p + 1, and as line 96 the last word.
-pub fn unit_line(i: u32) {
+pub fn unit_line(out: &impl Print, i: u32) {
     let power = (1u64 << (i / 3 % 64)) % 4294967296;
     let word = ((power + 4294967295 + i as u64 % 3) % 4294967296) as u32;
-    print::number(word);
-    print::wide_number(bits(unit::coordinate(word, Precision::Single)), b' ');
-    print::wide_number(bits(unit::coordinate(word, Precision::Double)), b'\n');
+    print::number(out, word);
+    print::wide_number(out, bits(unit::coordinate(word, Precision::Single)), b' ');
+    print::wide_number(out, bits(unit::coordinate(word, Precision::Double)), b'\n');
 }
 
 // One step: prints the visit or the end, and hands back the walk after it.
-fn step_line(walk: Walk) -> Walk {
+fn step_line(out: &impl Print, walk: Walk) -> Walk {
     let scramble = pairs::first_shift();
     let flips = scramble.flips;
     let x = flips.x;
@@ -57,21 +57,21 @@ fn step_line(walk: Walk) -> Walk {
     let step = stepped.step;
     match step {
         SinglesStep::Visited(visit) => {
-            print::number(visit.index);
-            singles_line(visit.at);
+            print::number(out, visit.index);
+            singles_line(out, visit.at);
         }
-        SinglesStep::Ended => print::text(b"ended\n"),
-        SinglesStep::Refused(why) => print::refusal_line(why),
+        SinglesStep::Ended => print::text(out, b"ended\n"),
+        SinglesStep::Refused(why) => print::refusal_line(out, why),
     }
     stepped.walk
 }
 
 // The last two visits of all, and a step after the end.
-pub fn steps() {
-    print::text(b"steps\n");
+pub fn steps(out: &impl Print) {
+    print::text(out, b"steps\n");
     let opened = Walk::open(4294967294, 2);
     let Opened::Open(walk) = opened else {
         return;
     };
-    step_line(step_line(step_line(walk)));
+    step_line(out, step_line(out, step_line(out, walk)));
 }

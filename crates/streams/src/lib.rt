@@ -1,5 +1,5 @@
 // What the programs share that read a region file from standard input and write a text to standard output: reading to the end, writing whole, and
-// what is said on standard error. It calls the system, so its contracts rest on the kit's contracts of C functions.
+// what is said on standard error.
 #![tactic(auto)]
 
 mod reading;
@@ -9,4 +9,4 @@ mod writing;
 
 pub use reading::{FILE_ROOM, read_all};
 pub use words::say_ending;
-pub use writing::{Ending, write_piece};
+pub use writing::{Ending, exit_code, write_piece};
