@@ -57,7 +57,8 @@ masked x w h = go (w % 2) (omega arith)
     go (suc (suc b)) l = absurd (omega arith)
 
 -- the code's exclusive or under the mask
-pub masked-added : (by w x y hit : ℕ) → x < 2 ^ 32 → hit ≡ w / 2 ^ count_trailing_zeros 32 by % 2 * 4294967295 → bit_xor y (bit_and x hit) ≡ added by w x y
+pub masked-added : (by w x y hit : ℕ) → x < 2 ^ 32 → hit ≡ w / 2 ^ count_trailing_zeros 32 by % 2 * 4294967295 → bit_xor y (bit_and x hit)
+    ≡ added by w x y
 masked-added by w x y hit h e = ap (bit_xor y) (ap (bit_and x) e ∙ masked x (w / 2 ^ count_trailing_zeros 32 by) h)
 
 -- ---- an entry more

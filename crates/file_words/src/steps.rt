@@ -27,7 +27,8 @@ pub fn step_words(
 ) -> SteppedWords
     ensures walk { visits_by_words file.now result.walk ≡ all_but_first (visits_by_words file.now walk) }
     ensures given { result.given ≡ visit_given (visits_by_words file.now walk) }
-    ensures visit { visit_words result.number result.index result.x result.y ≡ visit_left (visits_by_words file.now walk) (visit_words number index x y) }
+    ensures visit { visit_words result.number result.index result.x result.y
+        ≡ visit_left (visits_by_words file.now walk) (visit_words number index x y) }
 {
     let start = walk_of(walk);
     let stepped = start.step(file);

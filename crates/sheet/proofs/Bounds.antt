@@ -1,6 +1,7 @@
 -- The visits of an accepted file have room in their columns.
 -- Assumes nothing.
-use Rattle.std.proofs.Common.{◌≡◌, ℕ, suc, ◌-◌, ◌*◌, ◌/◌, ◌^◌, ◌<◌, ◌≤◌, Bool, true, false, cond, not, ltb, List, [], ◌∷◌, ℤ, pos, negsuc, ◌+ℤ◌, div-lt_iff_lt-mul, mul-le-mul_left, arith, lit<, ltb-false}
+use Rattle.std.proofs.Common.{◌≡◌, ℕ, suc, ◌-◌, ◌*◌, ◌/◌, ◌^◌, ◌<◌, ◌≤◌, Bool, true, false, cond, not, ltb, List, [], ◌∷◌, ℤ, pos, negsuc, ◌+ℤ◌}
+use Rattle.std.proofs.Common.{div-lt_iff_lt-mul, mul-le-mul_left, arith, lit<, ltb-false}
 use borrow.Author.Tests.{not-true}
 use Rattle.ranges.specs.Below.{Below}
 use Rattle.ranges.specs.Each.{Each}

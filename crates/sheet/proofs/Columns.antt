@@ -1,6 +1,7 @@
 -- The columns of a line: what stands in them can be printed, and read back by its columns it is the text.
 -- Assumes nothing.
-use Rattle.std.proofs.Common.{◌≡◌, ℕ, zero, suc, ◌-◌, ◌≤◌, Bool, true, false, ◌&&◌, eqb, ◌≢◌, List, [], ◌∷◌, ◌++◌, length, take, drop, replicate, sym, refl, ap, ◌∙◌, append_assoc, arith, length-append, drop-drop, take_at, drop_at, ne_eqb}
+use Rattle.std.proofs.Common.{◌≡◌, ℕ, zero, suc, ◌-◌, ◌≤◌, Bool, true, false, ◌&&◌, eqb, ◌≢◌, List, [], ◌∷◌, ◌++◌, length, take, drop, replicate}
+use Rattle.std.proofs.Common.{sym, refl, ap, ◌∙◌, append_assoc, arith, length-append, drop-drop, take_at, drop_at, ne_eqb}
 use mathlib.Core.Bool.{and-false}
 use Rattle.ranges.specs.Each.{Each}
 use Rattle.ranges.proofs.Each.{each_append, each-replicate}

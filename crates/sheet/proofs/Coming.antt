@@ -1,6 +1,7 @@
 -- What is to come from a cursor, line by line: a heading, the lines for visits, the number of the page, and what follows the page.
 -- Assumes nothing.
-use Rattle.std.proofs.Common.{◌≡◌, ℕ, zero, suc, ◌+◌, ◌/◌, ◌%◌, ◌^◌, ◌<◌, ◌≤◌, List, [], ◌∷◌, ◌++◌, length, drop, sym, refl, ap, ◌∙◌, ap₂, append_assoc, append-nil, add-one, arith, length-drop}
+use Rattle.std.proofs.Common.{◌≡◌, ℕ, zero, suc, ◌+◌, ◌/◌, ◌%◌, ◌^◌, ◌<◌, ◌≤◌, List, [], ◌∷◌, ◌++◌, length, drop, sym, refl, ap, ◌∙◌, ap₂}
+use Rattle.std.proofs.Common.{append_assoc, append-nil, add-one, arith, length-drop}
 use lib.Seq.{drop-nil}
 use Rattle.ranges.specs.Range.{range}
 use Rattle.visits.specs.declared.file_walks.FileVisit.{FileVisit}

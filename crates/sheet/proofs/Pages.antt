@@ -1,7 +1,9 @@
 -- The pages of a sheet: how many there are, their lines and numbers, and that cut into lines and pages again they read back as the lines of
 -- the listing.
 -- Assumes nothing.
-use Rattle.std.proofs.Common.{◌≡◌, ℕ, zero, suc, ◌+◌, ◌*◌, ◌/◌, ◌<◌, ◌≤◌, List, [], ◌∷◌, ◌++◌, map, length, take, drop, sym, refl, ap, ◌∙◌, ap₂, append_assoc, le_of_suc-le-suc, not-suc-le-zero, zero-add, arith, length-append, length-drop, take-append-drop, drop-drop, take_at, drop_at}
+use Rattle.std.proofs.Common.{◌≡◌, ℕ, zero, suc, ◌+◌, ◌*◌, ◌/◌, ◌<◌, ◌≤◌, List, [], ◌∷◌, ◌++◌, map, length, take, drop, sym, refl, ap, ◌∙◌, ap₂}
+use Rattle.std.proofs.Common.{append_assoc, le_of_suc-le-suc, not-suc-le-zero, zero-add, arith, length-append, length-drop, take-append-drop}
+use Rattle.std.proofs.Common.{drop-drop, take_at, drop_at}
 use lib.ListN.{length-map}
 use lib.Seq.{take-nil}
 use Rattle.ranges.specs.Range.{range}

@@ -32,7 +32,8 @@ pub(crate) fn judge(
     row: u32,
     block: Block,
 ) -> Judgement
-    ensures { (f : Flips) → of_judgement flips ≡ flips_outcome f → of_judgement result ≡ first (query_tests f level m a block column row) (accepted tt) }
+    ensures { (f : Flips) → of_judgement flips ≡ flips_outcome f
+        → of_judgement result ≡ first (query_tests f level m a block column row) (accepted tt) }
 {
     if Plan::unknown_level(level) {
         return Judgement::Refused(Refusal::Level);

@@ -93,7 +93,8 @@ fn put_answers(
     rows: &[u32],
     answers: &mut [Index],
 )
-    requires valid { Valid (generators plan) × ShiftFits scramble.shift × Cell largest_level m a block 0 0 × ShapeInverse (generators plan) m a inverse }
+    requires valid { Valid (generators plan) × ShiftFits scramble.shift × Cell largest_level m a block 0 0
+        × ShapeInverse (generators plan) m a inverse }
     requires all_inside { AllInside m a columns.now rows.now × (length columns.now ≡ length rows.now) × (length columns.now ≡ length answers.old) }
     ensures { answers.new ≡ visit_indexes (sequence plan scramble) m a block columns.now rows.now }
 {

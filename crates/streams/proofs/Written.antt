@@ -1,6 +1,7 @@
 -- A text that is written piece by piece: the bytes that were counted and those to come are as many as the text has.
 -- Assumes nothing.
-use Rattle.std.proofs.Common.{◌≡◌, ℕ, ◌+◌, ◌%◌, ◌^◌, ◌<◌, ◌≤◌, List, [], ◌++◌, Option, length, take, sym, ap, ◌∙◌, subst, arith, length-append, append_assoc, append-nil, drop_of_length-le}
+use Rattle.std.proofs.Common.{◌≡◌, ℕ, ◌+◌, ◌%◌, ◌^◌, ◌<◌, ◌≤◌, List, [], ◌++◌, Option, length, take, sym, ap, ◌∙◌, subst, arith, length-append}
+use Rattle.std.proofs.Common.{append_assoc, append-nil, drop_of_length-le}
 use Rattle.std.specs.Io.KnownBytes.{Appends}
 use Rattle.std.proofs.KnownBytes.{Appends-nil, Appends-trans}
 use Rattle.std.proofs.lemmas.List.{take-append-le}
@@ -70,7 +71,8 @@ module _ {C : Type 0} {to_come : C → List ℕ} {w : ℕ} {c d : C} {piece : Li
       let rest = to_come d in
       let whole : q ++ (piece ++ rest) ≡ text = ap (λ l. q ++ l) p.joins ∙ joined in
       let start : q ++ take k piece ≡ take (length q + k) text =
-      ap (λ l. q ++ l) (sym (take-append-le k piece rest (omega arith))) ∙ sym (take-append-add q (piece ++ rest) k) ∙ ap (take (length q + k)) whole in
+      ap (λ l. q ++ l) (sym (take-append-le k piece rest (omega arith))) ∙ sym (take-append-add q (piece ++ rest) k)
+      ∙ ap (take (length q + k)) whole in
       let long = ap length whole in
       let parts = length-append q (piece ++ rest) in
       let both = length-append piece rest in

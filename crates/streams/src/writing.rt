@@ -1,8 +1,8 @@
 // Writing whole, in as many calls as the system needs, and how it ended.
 ghost use Rattle.std.specs.Prelude.{◌-◌, ◌≤◌, length, take, drop};
 ghost use Rattle.std.specs.Io.KnownBytes.{Appends};
-ghost use Rattle.streams.specs.Transfer.{MovesAtMost, moved};
 ghost use Rattle.std.specs.Process.{exit_status};
+ghost use Rattle.streams.specs.Transfer.{MovesAtMost, moved};
 ghost use Rattle.streams.specs.Ending.{CountedOn, Puts, EndsWith};
 
 use crate::transfers::{MOST_CALLS, Transfer, answered};

@@ -70,7 +70,8 @@ value (suc k) t some small =
     (mul_assoc (2 ^ 23 + t) (2 ^ k) (2 ^ (23 + (127 - suc k))) ∙ ap (λ (n : ℕ). (2 ^ 23 + t) * n) (powers k (23 + (127 - suc k)) 149 all))
     (odd_sign 24 false (2 ^ 23 + t) k 149))
 
-pub laid_out : (w : ℕ) → w < 2 ^ 32 → LaidOut (single w) (single_bits w) (exponent_field (count_leading_zeros 32 w)) (stored_digits width (numerator w))
+pub laid_out : (w : ℕ) → w < 2 ^ 32 → LaidOut (single w) (single_bits w) (exponent_field (count_leading_zeros 32 w)) (stored_digits width
+    (numerator w))
 laid_out w below =
     let z = count_leading_zeros 32 w in
     let e = exponent_field z in

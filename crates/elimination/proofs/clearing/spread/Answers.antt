@@ -14,7 +14,8 @@ pub overflow_shl-by : goal.overflow_shl-by
 overflow_shl-by c = within c
 
 pub returns-then-word-by-eq0 : goal.returns-then-word-by-eq0
-returns-then-word-by-eq0 c = spread_none c.args.word (count_trailing_zeros 32 c.args.by) (within (goal.at.returns-then-word-by-eq0 c).Start) c.if-word-by-eq0.true
+returns-then-word-by-eq0 c = spread_none c.args.word (count_trailing_zeros 32 c.args.by) (within (goal.at.returns-then-word-by-eq0 c).Start)
+    c.if-word-by-eq0.true
 
 pub returns : goal.returns
 returns c = spread_all c.args.word (count_trailing_zeros 32 c.args.by) (within (goal.at.returns c).Start) c.if-word-by-eq0.false

@@ -18,10 +18,12 @@ pub loop-t-init : goal.loop-t-init
 loop-t-init c = (omega arith, refl, omega arith, mask_starts c.args.flips c.args.word (search rules))
 
 pub overflow_add-node : goal.overflow_add-node
-overflow_add-node c = let b = (let the_node_lt : c.loop-t.first + top 2 32 c.loop-t.t c.args.word < 255 = let l = c.loop-t in let a = c.args in mask_node_lt a.flips a.word l.t l.first (search rules) (omega arith) l.invariant.1 in the_node_lt) in omega arith
+overflow_add-node c = let b = (let the_node_lt : c.loop-t.first + top 2 32 c.loop-t.t c.args.word < 255 = let l = c.loop-t in let a = c.args in
+    mask_node_lt a.flips a.word l.t l.first (search rules) (omega arith) l.invariant.1 in the_node_lt) in omega arith
 
 pub bounds-flips-node : goal.bounds-flips-node
-bounds-flips-node c = let b = (let the_node_lt : c.loop-t.first + top 2 32 c.loop-t.t c.args.word < 255 = let l = c.loop-t in let a = c.args in mask_node_lt a.flips a.word l.t l.first (search rules) (omega arith) l.invariant.1 in the_node_lt) in omega arith
+bounds-flips-node c = let b = (let the_node_lt : c.loop-t.first + top 2 32 c.loop-t.t c.args.word < 255 = let l = c.loop-t in let a = c.args in
+    mask_node_lt a.flips a.word l.t l.first (search rules) (omega arith) l.invariant.1 in the_node_lt) in omega arith
 
 pub overflow_mul-mask : goal.overflow_mul-mask
 overflow_mul-mask c = let b = power_le c.loop-t.t c.loop-t.invariant.0 in omega arith

@@ -24,10 +24,12 @@ pub loop-t-init : goal.loop-t-init
 loop-t-init c = (omega arith, unflip_starts c.args.flips c.args.word)
 
 pub overflow_cast-set : goal.overflow_cast-set
-overflow_cast-set c = let b = (let the_node_lt : c.loop-t.node < 255 = let l = c.loop-t in let a = c.args in unflip_node_lt a.flips a.word l.t l.node (omega arith) l.invariant.1 in the_node_lt) in omega arith
+overflow_cast-set c = let b = (let the_node_lt : c.loop-t.node < 255 = let l = c.loop-t in let a = c.args in
+    unflip_node_lt a.flips a.word l.t l.node (omega arith) l.invariant.1 in the_node_lt) in omega arith
 
 pub bounds-flips-node : goal.bounds-flips-node
-bounds-flips-node c = let b = (let the_node_lt : c.loop-t.node < 255 = let l = c.loop-t in let a = c.args in unflip_node_lt a.flips a.word l.t l.node (omega arith) l.invariant.1 in the_node_lt) in omega arith
+bounds-flips-node c = let b = (let the_node_lt : c.loop-t.node < 255 = let l = c.loop-t in let a = c.args in
+    unflip_node_lt a.flips a.word l.t l.node (omega arith) l.invariant.1 in the_node_lt) in omega arith
 
 pub overflow_mul-node : goal.overflow_mul-node
 overflow_mul-node c = let b = node_lt c in omega arith

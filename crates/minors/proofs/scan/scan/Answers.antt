@@ -42,7 +42,8 @@ loop-a-preserved c = let l = c.loop-a in
     let one : digit 2 l.a (get_or l.x l.a 0) ≡ 1 = omega (arith, c.if-by-a-eq0.false) in (
       omega arith,
       omega arith,
-      first_doubt_within l.top l.at c.minors_up_to-r.result l.a c.first_doubt-at.result c.first_doubt-at.ensures c.minors_up_to-r.ensures.0 l.invariant.2,
+      first_doubt_within l.top l.at c.minors_up_to-r.result l.a c.first_doubt-at.result c.first_doubt-at.ensures c.minors_up_to-r.ensures.0
+          l.invariant.2,
       λ X Y xs ys. rw (add-one l.a) (scanned_next (l.invariant.3 X Y xs ys) room c.clear-below.result c.clear-beside.result
           small c.minors_up_to-r.ensures.1 c.minors_up_to-r.ensures.2 c.first_doubt-at.ensures one c.clear-below.ensures c.clear-beside.ensures),
     )

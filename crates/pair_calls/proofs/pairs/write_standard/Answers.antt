@@ -34,6 +34,7 @@ returns c =
     let y = c.write_columns-2.new.out in
     let long : length x ≡ 32 = c.write_columns.auto.out ∙ length-take-le 32 w (omega arith) in record {
       answer = accepted-answer e;
-      words = halves 32 x y (drop 32 w) long ∙ ap₂ (λ (l r : List ℕ). l ++ r) (c.write_columns.ensures ∙ ap (λ (P : Plan). P.x) c.standard-plan.ensures)
+      words = halves 32 x y (drop 32 w) long ∙ ap₂ (λ (l r : List ℕ). l ++ r) (c.write_columns.ensures
+          ∙ ap (λ (P : Plan). P.x) c.standard-plan.ensures)
           (c.write_columns-2.ensures ∙ ap (λ (P : Plan). P.y) c.standard-plan.ensures) ∙ sym (granted-accepted _ _ e);
     }

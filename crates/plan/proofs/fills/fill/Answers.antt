@@ -58,7 +58,8 @@ returns-then-n-ys c =
 pub returns-then-goes_past : goal.returns-then-goes_past
 returns-then-goes_past c =
     let a = c.args in
-    let both = leaves index_count (lent (goal.at.returns-then-goes_past c).Start) a.start a.xs.now a.ys.now (S (goal.at.returns-then-goes_past c).Start)
+    let both = leaves index_count (lent (goal.at.returns-then-goes_past c).Start) a.start a.xs.now a.ys.now (S
+        (goal.at.returns-then-goes_past c).Start)
     (refused-range index_count (lent (goal.at.returns-then-goes_past c).Start) a.start a.xs.now a.ys.now c.load-loaded.ensures.answer c.in-Accepted.is
     c.if-n-ys.false (sym c.goes_past.ensures ∙ c.if-goes_past.true)) in record { answer = both.0; first = both.1.0; second = both.1.1 }
 
@@ -75,8 +76,10 @@ returns c =
     let w = written index_count (lent (goal.at.returns c).Start) a.start a.xs.now a.ys.now (S (goal.at.returns c).Start) o in
     record {
       answer = sym o;
-      first = c.fill_axes.ensures.first ∙ ap (axis a.plan.x a.shift.x a.start (length a.xs.now)) (ap (λ (g : Flips). g.x) (are (goal.at.returns c).In-Accepted))
+      first = c.fill_axes.ensures.first ∙ ap (axis a.plan.x a.shift.x a.start (length a.xs.now)) (ap (λ (g : Flips). g.x) (are
+          (goal.at.returns c).In-Accepted))
           ∙ sym (ap (λ (b : Buffers). b.x) w);
-      second = c.fill_axes.ensures.second ∙ ap (axis a.plan.y a.shift.y a.start (length a.ys.now)) (ap (λ (g : Flips). g.y) (are (goal.at.returns c).In-Accepted))
+      second = c.fill_axes.ensures.second ∙ ap (axis a.plan.y a.shift.y a.start (length a.ys.now)) (ap (λ (g : Flips). g.y) (are
+          (goal.at.returns c).In-Accepted))
           ∙ sym (ap (λ (b : Buffers). b.y) w);
     }

@@ -12,7 +12,8 @@ abbrev pub entry : ℕ → (masks C : List ℕ) → ℕ → ℕ
 entry t masks C n = group_entry t masks C (n / 64) (n % 64)
 
 abbrev pub invariant-loop-n : goal.invariant-loop-n
-invariant-loop-n l = (l.n ≤ length l.initial.tables) × (length l.tables ≡ length l.initial.tables) × ((C : List ℕ) → l.low ≡ first_group C → Filled (entry l.bits l.masks C) 0 l.n l.initial.tables l.tables)
+invariant-loop-n l = (l.n ≤ length l.initial.tables) × (length l.tables ≡ length l.initial.tables) × ((C : List ℕ) → l.low ≡ first_group C
+    → Filled (entry l.bits l.masks C) 0 l.n l.initial.tables l.tables)
 
 abbrev pub decreases-loop-n : goal.decreases-loop-n
 decreases-loop-n l = length l.initial.tables - l.n

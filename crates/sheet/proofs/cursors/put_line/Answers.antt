@@ -24,7 +24,8 @@ returns-in-Refusal c =
       joins = refusal_first n k vs ∙ ap (λ (p : Place). from_place p k vs) (sym c.in-Refusal.is);
       short = refused-short n;
       some = inl (refused-some n);
-      written = from_if_room longest_refusal a.out.now a.at (refused_text n) u.result u.new.out (omega (arith, c.requires)) (u.ensures.end, u.ensures.text);
+      written = from_if_room longest_refusal a.out.now a.at (refused_text n) u.result u.new.out (omega (arith, c.requires))
+          (u.ensures.end, u.ensures.text);
     }
 
 pub returns-in-Heading : goal.returns-in-Heading

@@ -10,4 +10,5 @@ pub returns : goal.returns
 unfolding in_columns right
 returns c =
     let u = c.bytes in
-    let both = from_if_room (length heading) c.args.out.now c.args.at heading u.result u.new.out (omega (arith, c.requires)) (u.ensures.end, u.ensures.text) in record { end = both.0; text = both.1 }
+    let both = from_if_room (length heading) c.args.out.now c.args.at heading u.result u.new.out (omega (arith, c.requires))
+    (u.ensures.end, u.ensures.text) in record { end = both.0; text = both.1 }

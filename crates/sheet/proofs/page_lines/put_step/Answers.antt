@@ -12,7 +12,8 @@ pub returns-in-Visited : goal.returns-in-Visited
 returns-in-Visited c =
     let a = c.args in
     let u = c.put_visit in
-    let both = subst (λ (s : FileStep). Writes a.out.now a.at (step_line s) u.result u.new.out) (sym c.in-Visited.is) (u.ensures.end, u.ensures.text) in record { end = both.0; text = both.1 }
+    let both = subst (λ (s : FileStep). Writes a.out.now a.at (step_line s) u.result u.new.out) (sym c.in-Visited.is)
+    (u.ensures.end, u.ensures.text) in record { end = both.0; text = both.1 }
 
 pub returns-in-Ended : goal.returns-in-Ended
 unfolding across right
@@ -20,4 +21,5 @@ returns-in-Ended c =
     let a = c.args in
     let u = c.bytes in
     let both = subst (λ (s : FileStep). Writes a.out.now a.at (step_line s) u.result u.new.out) (sym c.in-Ended.is)
-    (from_if_room (length blank_line) a.out.now a.at blank_line u.result u.new.out (omega (arith, c.requires)) (u.ensures.end, u.ensures.text)) in record { end = both.0; text = both.1 }
+    (from_if_room (length blank_line) a.out.now a.at blank_line u.result u.new.out (omega (arith, c.requires)) (u.ensures.end, u.ensures.text)) in
+    record { end = both.0; text = both.1 }

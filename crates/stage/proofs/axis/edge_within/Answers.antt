@@ -8,7 +8,8 @@ use Rattle.stage.proofs.Sums.{read_back}
 use Rattle.stage.proofs.axis.edge_within.Goals as goal
 
 pub returns-then-edge-lt-SMALLEST_EDGE : goal.returns-then-edge-lt-SMALLEST_EDGE
-returns-then-edge-lt-SMALLEST_EDGE c = simp (read_back (λ (z : ℤ). lt_z z (smallest_edge)) true c.args.edge c.ranges.edge c.if-edge-lt-SMALLEST_EDGE.true)
+returns-then-edge-lt-SMALLEST_EDGE c = simp (read_back (λ (z : ℤ). lt_z z (smallest_edge)) true c.args.edge c.ranges.edge
+    c.if-edge-lt-SMALLEST_EDGE.true)
 
 pub returns-then-edge-gt-LARGEST_EDGE : goal.returns-then-edge-gt-LARGEST_EDGE
 returns-then-edge-gt-LARGEST_EDGE c =

@@ -27,7 +27,8 @@ abbrev verdict : goal.Start → Outcome Unit
 verdict s = of_verdict (check (generators (loaded s.args.words.now)) s.args.level)
 
 -- 64 words were loaded
-pair-passed : (c : goal.In-Accepted) → check_outcome c.args.words.now c.args.level ≡ first (unknown_level c.args.level ∷ []) (verdict (goal.at.unknown_level-requires c).Start)
+pair-passed : (c : goal.In-Accepted) → check_outcome c.args.words.now c.args.level ≡ first (unknown_level c.args.level ∷ []) (verdict
+    (goal.at.unknown_level-requires c).Start)
 pair-passed c =
     let loading-is = sym c.load-loaded.ensures.answer ∙ ap of_judgement c.in-Accepted.is in
     alone_passes tt (verdict (goal.at.unknown_level-requires c).Start) 1 _ (not (eqb (length c.args.words.now) 64)) loading-is
@@ -41,7 +42,8 @@ returns-in-Refused c =
 pub returns-then-unknown_level : goal.returns-then-unknown_level
 returns-then-unknown_level c =
     let unknown = sym c.unknown_level.ensures ∙ c.if-unknown_level.true in
-    sym (pair-passed (goal.at.returns-then-unknown_level c).In-Accepted ∙ first-refuses (verdict (goal.at.returns-then-unknown_level c).Start) 2 [] unknown)
+    sym (pair-passed (goal.at.returns-then-unknown_level c).In-Accepted
+    ∙ first-refuses (verdict (goal.at.returns-then-unknown_level c).Start) 2 [] unknown)
 
 pub scan-requires : goal.scan-requires
 scan-requires c =
@@ -57,4 +59,5 @@ pub returns : goal.returns
 returns c =
     c.scan.ensures
     ∙ ap (λ (P : Plan). of_verdict (check (generators P) c.args.level)) c.load-loaded.ensures.plan
-    ∙ sym (pair-passed (goal.at.returns c).In-Accepted ∙ first_passes (verdict (goal.at.returns c).Start) 2 [] (sym c.unknown_level.ensures ∙ c.if-unknown_level.false) ∙ first-none (verdict (goal.at.returns c).Start))
+    ∙ sym (pair-passed (goal.at.returns c).In-Accepted ∙ first_passes (verdict (goal.at.returns c).Start) 2 [] (sym c.unknown_level.ensures
+    ∙ c.if-unknown_level.false) ∙ first-none (verdict (goal.at.returns c).Start))

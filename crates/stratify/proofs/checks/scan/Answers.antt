@@ -34,18 +34,21 @@ returns-then-kernel-ne0 c =
     let l = c.loop-m in
     sym (ap of_verdict
     (scan_stops c.requires.0 two c.args.level c.requires.1 l.m l.a c.eliminate-e.result.kernel l.invariant.0 (omega arith)
-    l.invariant.1 l.invariant.3 (least-of_kernel (shape (goal.at.returns-then-kernel-ne0 c).After-eliminate-e) (columns (goal.at.returns-then-kernel-ne0 c).After-eliminate-e) (kernel (goal.at.returns-then-kernel-ne0 c).After-eliminate-e) c.if-kernel-ne0.true)))
+    l.invariant.1 l.invariant.3 (least-of_kernel (shape (goal.at.returns-then-kernel-ne0 c).After-eliminate-e) (columns
+    (goal.at.returns-then-kernel-ne0 c).After-eliminate-e) (kernel (goal.at.returns-then-kernel-ne0 c).After-eliminate-e) c.if-kernel-ne0.true)))
 
 pub loop-m-preserved-then-a-m : goal.loop-m-preserved-then-a-m
 loop-m-preserved-then-a-m c =
     let l = c.loop-m in
-    let odd = determinant-nonzero (shape (goal.at.loop-m-preserved-then-a-m c).After-eliminate-e) (columns (goal.at.loop-m-preserved-then-a-m c).After-eliminate-e) (kernel (goal.at.loop-m-preserved-then-a-m c).After-eliminate-e) (omega arith) in
+    let odd = determinant-nonzero (shape (goal.at.loop-m-preserved-then-a-m c).After-eliminate-e) (columns (goal.at.loop-m-preserved-then-a-m
+    c).After-eliminate-e) (kernel (goal.at.loop-m-preserved-then-a-m c).After-eliminate-e) (omega arith) in
     (omega arith, omega arith, omega arith, scan_next _ l.m l.a l.invariant.3 odd)
 
 pub loop-m-preserved : goal.loop-m-preserved
 loop-m-preserved c =
     let l = c.loop-m in
-    let odd = determinant-nonzero (shape (goal.at.loop-m-preserved c).After-eliminate-e) (columns (goal.at.loop-m-preserved c).After-eliminate-e) (kernel (goal.at.loop-m-preserved c).After-eliminate-e) (omega arith) in
+    let odd = determinant-nonzero (shape (goal.at.loop-m-preserved c).After-eliminate-e) (columns (goal.at.loop-m-preserved c).After-eliminate-e)
+    (kernel (goal.at.loop-m-preserved c).After-eliminate-e) (omega arith) in
     (omega arith, omega arith, omega arith, scan_row _ l.m l.a (omega arith) l.invariant.3 odd)
 
 pub returns : goal.returns

@@ -22,7 +22,12 @@ base_is c =
     let a = c.args in
     let p = c.requires.valid in
     let product_is = c.product.ensures ∙ ap (product 2 a.inverse) c.block_cell-first.ensures in
-    let small = base_lt ((let the_shape : Shape (generators c.args.plan) c.args.m c.args.a = record { valid = c.requires.valid.0; wide = c.requires.valid.2.wide; fits = c.requires.valid.2.size } in the_shape)) a.scramble p.1 a.block a.inverse p.3 p.2.block in
+    let small = base_lt ((let the_shape : Shape (generators c.args.plan) c.args.m c.args.a = record {
+      valid = c.requires.valid.0;
+      wide =
+          c.requires.valid.2.wide;
+      fits = c.requires.valid.2.size;
+    } in the_shape)) a.scramble p.1 a.block a.inverse p.3 p.2.block in
     joined-whole _ _ _ (c.join-base.ensures ∙ ap (λ (v : ℕ). (a.block * 2 ^ a.m + v) % 2 ^ 32) product_is) small
 
 pub block_cell-first-requires : goal.block_cell-first-requires

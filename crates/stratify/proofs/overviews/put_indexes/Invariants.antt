@@ -12,7 +12,8 @@ abbrev pub index : List ℕ → (base n : ℕ) → ℕ
 index inverse base n = bit_xor base (product 2 inverse n)
 
 abbrev pub invariant-loop-i : goal.invariant-loop-i
-invariant-loop-i l = (l.i ≤ length l.initial.answers) × (length l.answers ≡ length l.initial.answers) × (map (index l.inverse l.base) (take l.i l.initial.answers) ++ drop l.i l.initial.answers ≡ l.answers)
+invariant-loop-i l = (l.i ≤ length l.initial.answers) × (length l.answers ≡ length l.initial.answers)
+    × (map (index l.inverse l.base) (take l.i l.initial.answers) ++ drop l.i l.initial.answers ≡ l.answers)
 
 abbrev pub decreases-loop-i : goal.decreases-loop-i
 decreases-loop-i l = length l.initial.answers - l.i

@@ -12,7 +12,8 @@ abbrev pub number : Scramble → (m a : ℕ) → List ℕ → List ℕ → ℕ �
 number s m a columns rows d = plain_number s m a (get_or columns d 0) (get_or rows d 0)
 
 abbrev pub invariant-loop-i : goal.invariant-loop-i
-invariant-loop-i l = (l.i ≤ length l.columns) × (length l.answers ≡ length l.initial.answers) × ((d : ℕ) → d < l.i → get_or l.answers d 0 ≡ number l.scramble l.m l.a l.columns l.rows d)
+invariant-loop-i l = (l.i ≤ length l.columns) × (length l.answers ≡ length l.initial.answers) × ((d : ℕ) → d < l.i → get_or l.answers d 0
+    ≡ number l.scramble l.m l.a l.columns l.rows d)
 
 abbrev pub decreases-loop-i : goal.decreases-loop-i
 decreases-loop-i l = length l.columns - l.i

@@ -2,6 +2,7 @@
 use mathlib.Core.Path.{◌≡◌, sym, ap, subst}
 use Prim.Native.Nat.{ℕ, ◌+◌, ◌*◌, ◌^◌, ◌<◌}
 use native.Mathlib.Omega.{arith}
+use borrow.Author.Rules.{rules}
 use Rattle.ranges.specs.Unique.{Only}
 use Rattle.digits.proofs.Two.{one_lt_two}
 use Rattle.linear.proofs.Prime.{two}
@@ -16,7 +17,6 @@ use Rattle.elimination.proofs.Shapes.{least-of_kernel, determinant-nonzero}
 use Rattle.stratify.specs.Answers.{of_location}
 use Rattle.stratify.proofs.Cell.{answer}
 use Rattle.stratify.proofs.queries.find.Goals as goal
-use borrow.Author.Rules.{rules}
 use Rattle.stratify.proofs.queries.find.Goals.{After-eliminate-e, Else-kernel-ne0, Start}
 
 pub join-requires : goal.join-requires
@@ -46,7 +46,8 @@ only c =
     let a = c.args in
     let q = c.requires.2 in
     let e = c.eliminate-e in
-    answer (shape (goal.at.join-requires c).Start) a.scramble c.requires.1 a.block a.column a.row q.column q.row (columns (goal.at.join-requires c).After-eliminate-e) e.result.index
+    answer (shape (goal.at.join-requires c).Start) a.scramble c.requires.1 a.block a.column a.row q.column q.row (columns
+    (goal.at.join-requires c).After-eliminate-e) e.result.index
     (rw (no_kernel c, c.plain_number.ensures, c.block_cell.ensures) at (e.ensures.within q.size))
 
 pub plain_number-requires : goal.plain_number-requires
@@ -60,7 +61,8 @@ returns-then-kernel-ne0 c =
     let a = c.args in
     sym (ap (of_location a.m a.a)
     (locate-bad_shape (generators a.plan) (scrambling a.scramble) a.m a.a a.block a.column a.row (shape (goal.at.returns-then-kernel-ne0 c).Start) two
-    c.eliminate-e.result.kernel (least-of_kernel (shape (goal.at.returns-then-kernel-ne0 c).Start) (columns (goal.at.returns-then-kernel-ne0 c).After-eliminate-e) (kernel (goal.at.returns-then-kernel-ne0 c).After-eliminate-e) c.if-kernel-ne0.true)))
+    c.eliminate-e.result.kernel (least-of_kernel (shape (goal.at.returns-then-kernel-ne0 c).Start) (columns
+    (goal.at.returns-then-kernel-ne0 c).After-eliminate-e) (kernel (goal.at.returns-then-kernel-ne0 c).After-eliminate-e) c.if-kernel-ne0.true)))
 
 -- and it is a word
 fits : (c : goal.Else-kernel-ne0) → c.args.block * 2 ^ c.args.m + c.eliminate-e.result.index < 2 ^ 32
@@ -72,7 +74,9 @@ fits c =
 pub returns : goal.returns
 returns c =
     let a = c.args in
-    let odd = determinant-nonzero (shape (goal.at.returns c).Start) (columns (goal.at.returns c).After-eliminate-e) (kernel (goal.at.returns c).After-eliminate-e) (no_kernel (goal.at.returns c).Else-kernel-ne0) in
+    let odd = determinant-nonzero (shape (goal.at.returns c).Start) (columns (goal.at.returns c).After-eliminate-e) (kernel
+    (goal.at.returns c).After-eliminate-e) (no_kernel (goal.at.returns c).Else-kernel-ne0) in
     sym (ap (of_location a.m a.a)
     (locate-found (generators a.plan) (scrambling a.scramble) a.m a.a a.block a.column a.row
-    c.join.result odd (subst (Only (Lies (goal.at.returns c).Start)) (sym (joined-whole _ _ _ c.join.ensures (fits (goal.at.returns c).Else-kernel-ne0))) (only (goal.at.returns c).Else-kernel-ne0))))
+    c.join.result odd (subst (Only (Lies (goal.at.returns c).Start)) (sym (joined-whole _ _ _ c.join.ensures (fits
+    (goal.at.returns c).Else-kernel-ne0))) (only (goal.at.returns c).Else-kernel-ne0))))

@@ -33,12 +33,15 @@ located s f =
     (locate (generators a.plan) (scrambling (record { shift = a.shift; flips = f })) a.m a.a a.block a.column a.row)
 
 -- the tests let the query through
-passed : (c : goal.In-Accepted) → ◌≡◌ {A = Outcome Unit} (first ((let a = c.args in query_tests ((flips_of c.args.flips_x.now c.args.flips_y.now)) a.level a.m a.a a.block a.column a.row)) (accepted tt)) (accepted tt)
-passed c = sym (c.judge-judged.ensures ((flips_of c.args.flips_x.now c.args.flips_y.now)) c.load-loaded.ensures.answer) ∙ ap of_judgement c.in-Accepted.is
+passed : (c : goal.In-Accepted) → ◌≡◌ {A = Outcome Unit} (first ((let a = c.args in
+    query_tests ((flips_of c.args.flips_x.now c.args.flips_y.now)) a.level a.m a.a a.block a.column a.row)) (accepted tt)) (accepted tt)
+passed c = sym (c.judge-judged.ensures ((flips_of c.args.flips_x.now c.args.flips_y.now)) c.load-loaded.ensures.answer)
+    ∙ ap of_judgement c.in-Accepted.is
 
 pub returns-in-Refused : goal.returns-in-Refused
 returns-in-Refused c =
-    sym (refused_before tt (located (goal.at.returns-in-Refused c).Start (lent (goal.at.returns-in-Refused c).Start)) (tests (goal.at.returns-in-Refused c).Start)
+    sym (refused_before tt (located (goal.at.returns-in-Refused c).Start (lent (goal.at.returns-in-Refused c).Start)) (tests
+    (goal.at.returns-in-Refused c).Start)
     (sym (c.judge-judged.ensures (lent (goal.at.returns-in-Refused c).Start) c.load-loaded.ensures.answer)
     ∙ ap of_judgement c.in-Refused.is))
 
@@ -60,4 +63,5 @@ returns c =
     let a = c.args in
     let fine = flips_of-tests (lent (goal.at.returns c).Start) a.level a.m a.a a.block a.column a.row (passed (goal.at.returns c).In-Accepted) in
     let are = c.load-loaded.ensures.flips ∙ granted-accepted _ _ fine in
-    c.find.ensures ∙ ap (located (goal.at.returns c).Start) are ∙ sym (passed_before tt (located (goal.at.returns c).Start (lent (goal.at.returns c).Start)) (tests (goal.at.returns c).Start) (passed (goal.at.returns c).In-Accepted))
+    c.find.ensures ∙ ap (located (goal.at.returns c).Start) are ∙ sym (passed_before tt (located (goal.at.returns c).Start (lent
+    (goal.at.returns c).Start)) (tests (goal.at.returns c).Start) (passed (goal.at.returns c).In-Accepted))

@@ -3,6 +3,7 @@ use mathlib.Core.Path.{◌≡◌, sym, ap, ap₂, ◌∙◌}
 use Prim.Native.Nat.{ℕ, ◌+◌, ◌-◌, ◌*◌, ◌^◌}
 use native.Mathlib.Nat.{lt_of_lt_of_le, zero-mul}
 use native.Mathlib.Omega.{arith}
+use borrow.Author.Rules.{rules}
 use lib.Pow.{pow_pos, pow_mono}
 use Rattle.digits.proofs.Two.{one_lt_two}
 use Rattle.net.specs.Generators.{product}
@@ -14,7 +15,6 @@ use Rattle.net.proofs.Interval.{block_lt, interval_lt, interval-zero}
 use Rattle.word.proofs.Joined.{joined-whole}
 use Rattle.plan.specs.Pair.{generators}
 use Rattle.stratify.proofs.strips.block_cell.Goals as goal
-use borrow.Author.Rules.{rules}
 use Rattle.stratify.proofs.strips.block_cell.Goals.{After-join-first, After-top-r, Start}
 
 pub overflow_sub-m-2 : goal.overflow_sub-m-2
@@ -42,7 +42,8 @@ made c =
     ap₂ (λ (u v : ℕ). u * 2 ^ (a.m - a.a) + v)
     (c.top-c.ensures
     ∙ ap (top 2 32 a.a) (c.product.ensures ∙ ap (product 2 a.plan.x) (first (goal.at.overflow_sub-m-2 c).After-join-first)))
-    (c.top-r.ensures ∙ ap (top 2 32 (a.m - a.a)) (c.product-2.ensures ∙ ap (product 2 a.plan.y) (first (goal.at.overflow_sub-m-2 c).After-join-first)))
+    (c.top-r.ensures ∙ ap (top 2 32 (a.m - a.a)) (c.product-2.ensures
+    ∙ ap (product 2 a.plan.y) (first (goal.at.overflow_sub-m-2 c).After-join-first)))
 
 pub returns : goal.returns
 returns c =

@@ -35,13 +35,15 @@ room : (c : goal.Else-not-has_columns) → let a = c.args in a.at + longest_alig
 room c = let a = c.args in leb-true (a.at + longest_aligned a.columns longest_signed) (length a.out.now) (has c)
 
 counted : (c : goal.After-signed_width) → c.signed_width.result ≡ length (signed_decimal c.args.z)
-counted c = c.signed_width.ensures ∙ ap (λ (z : ℤ). length (signed_decimal z)) ((let the_same : to_z w32 (of_z w32 c.args.z) ≡ c.args.z = to_z-of_z w32 c.args.z c.ranges.z in the_same))
+counted c = c.signed_width.ensures ∙ ap (λ (z : ℤ). length (signed_decimal z)) ((let the_same : to_z w32 (of_z w32 c.args.z)
+    ≡ c.args.z = to_z-of_z w32 c.args.z c.ranges.z in the_same))
 
 pub put_margin-next-requires : goal.put_margin-next-requires
 put_margin-next-requires c =
     let a = c.args in
     margin_fits a.columns longest_signed (signed_decimal a.z) (signed_text a.z a.last) a.last (signed_text_is a.z a.last)
-    (signed_longest a.z a.last) a.out.now a.at c.signed_width.result (counted (goal.at.put_margin-next-requires c).After-signed_width) (room (goal.at.put_margin-next-requires c).Else-not-has_columns)
+    (signed_longest a.z a.last) a.out.now a.at c.signed_width.result (counted (goal.at.put_margin-next-requires c).After-signed_width) (room
+        (goal.at.put_margin-next-requires c).Else-not-has_columns)
 
 pub put_signed-requires : goal.put_signed-requires
 put_signed-requires c =
@@ -49,7 +51,8 @@ put_signed-requires c =
     let u = c.put_margin-next in
     subst (λ (z : ℤ). u.result + length (signed_text z a.last) ≤ length u.new.out) (sym (same (goal.at.put_signed-requires c).Start))
     (text-fits a.columns longest_signed (signed_decimal a.z) (signed_text a.z a.last) a.last (signed_text_is a.z a.last)
-    (signed_longest a.z a.last) a.out.now a.at c.signed_width.result (counted (goal.at.put_signed-requires c).After-signed_width) (room (goal.at.put_signed-requires c).Else-not-has_columns) u.result u.new.out (u.ensures.end, u.ensures.text))
+    (signed_longest a.z a.last) a.out.now a.at c.signed_width.result (counted (goal.at.put_signed-requires c).After-signed_width) (room
+        (goal.at.put_signed-requires c).Else-not-has_columns) u.result u.new.out (u.ensures.end, u.ensures.text))
 
 pub returns : goal.returns
 returns c =
@@ -59,7 +62,8 @@ returns c =
     let both = to_if_room (longest_aligned a.columns longest_signed) a.out.now a.at (aligned a.columns (signed_decimal a.z) a.last) v.result
     v.new.out (has (goal.at.returns c).Else-not-has_columns)
     (margin_then a.columns longest_signed (signed_decimal a.z) (signed_text a.z a.last) a.last (signed_text_is a.z a.last)
-    (signed_longest a.z a.last) a.out.now a.at c.signed_width.result (counted (goal.at.returns c).After-signed_width) (room (goal.at.returns c).Else-not-has_columns) u.result u.new.out (u.ensures.end, u.ensures.text) v.result
+    (signed_longest a.z a.last) a.out.now a.at c.signed_width.result (counted (goal.at.returns c).After-signed_width) (room
+        (goal.at.returns c).Else-not-has_columns) u.result u.new.out (u.ensures.end, u.ensures.text) v.result
     v.new.out
     (subst (λ (z : ℤ). Writes u.new.out u.result (signed_text z a.last) v.result v.new.out) (same (goal.at.returns c).Start)
     (v.ensures.end, v.ensures.text))) in record { end = both.0; text = both.1 }

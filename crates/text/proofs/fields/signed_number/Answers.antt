@@ -40,4 +40,5 @@ returns c =
     let e : to_z w32 (of_z w32 a.z) ≡ a.z = to_z-of_z w32 a.z c.ranges.z in
     let both = to_if_room longest_signed a.out.now a.at (signed_text a.z a.last) u.result u.new.out
     (room (goal.at.returns c).Else-not-has_room)
-    (subst (λ (z : ℤ). Writes a.out.now a.at (signed_text z a.last) u.result u.new.out) e (u.ensures.end, u.ensures.text)) in record { end = both.0; text = both.1 }
+    (subst (λ (z : ℤ). Writes a.out.now a.at (signed_text z a.last) u.result u.new.out) e (u.ensures.end, u.ensures.text)) in
+        record { end = both.0; text = both.1 }

@@ -16,7 +16,8 @@ small : (c : goal.Else-n-lt10000) → c.args.n / 10000 < 2 ^ 32
 small c = omega (arith, c.ranges.n.fits)
 
 eight_more : (c : goal.Else-upper-lt10000) → let m = c.args.n / 10000 in length (decimal m) ≡ length (decimal (m / 10000)) + 4
-eight_more c = length_last_four (c.args.n / 10000) c.if-upper-lt10000.false ((let the_small : c.args.n / 10000 < 2 ^ 32 = omega (arith, c.ranges.n.fits) in the_small))
+eight_more c = length_last_four (c.args.n / 10000) c.if-upper-lt10000.false ((let the_small : c.args.n / 10000 < 2 ^ 32 = omega
+    (arith, c.ranges.n.fits) in the_small))
 
 pub put_up_to_four-next-requires : goal.put_up_to_four-next-requires
 put_up_to_four-next-requires c =
@@ -52,7 +53,8 @@ put_four_digits-third-requires c =
     let u = c.put_up_to_four-second in
     let m = four_more (goal.at.put_four_digits-third-requires c).Else-n-lt10000 in record {
       n_bound = omega arith;
-      at_in_bounds = omega (arith, c.requires, u.ensures.end, u.auto.out, m, eight_more (goal.at.put_four_digits-third-requires c).Else-upper-lt10000);
+      at_in_bounds = omega (arith, c.requires, u.ensures.end, u.auto.out, m, eight_more (goal.at.put_four_digits-third-requires
+          c).Else-upper-lt10000);
     }
 
 pub put_four_digits-requires-2 : goal.put_four_digits-requires-2
@@ -62,7 +64,8 @@ put_four_digits-requires-2 c =
     let k : length v.new.out ≡ length u.new.out = v.auto.out in
     let m = four_more (goal.at.put_four_digits-requires-2 c).Else-n-lt10000 in record {
       n_bound = omega arith;
-      at_in_bounds = omega (arith, c.requires, u.ensures.end, u.auto.out, v.ensures.end, k, m, eight_more (goal.at.put_four_digits-requires-2 c).Else-upper-lt10000);
+      at_in_bounds = omega (arith, c.requires, u.ensures.end, u.auto.out, v.ensures.end, k, m, eight_more (goal.at.put_four_digits-requires-2
+          c).Else-upper-lt10000);
     }
 
 pub returns : goal.returns

@@ -27,8 +27,13 @@ valued k old {o} same came value =
 left_there : (old : List ℕ) {o q : Outcome (List ℕ)} → o ≡ q → {new : List ℕ} → new ≡ part_left o (λ is. is) old → new ≡ part_left q (λ is. is) old
 left_there old same left = left ∙ ap (λ (p : Outcome (List ℕ)). part_left p (λ is. is) old) same
 
-goes_through : (c : goal.After-pair_plan-plan) → (let a = c.args in overview_outcome c.pair_plan-plan.result ((let a = c.args in scramble_words a.shift_x a.shift_y a.flips_x.now a.flips_y.now)) a.level a.m a.a a.block a.columns.now a.rows.now a.answers.now) ≡ (let a = c.args in pair_overview_outcome a.words.now ((let a = c.args in scramble_words a.shift_x a.shift_y a.flips_x.now a.flips_y.now)) a.level a.m a.a a.block a.columns.now a.rows.now a.answers.now)
-goes_through c = ap ((let the_with_plan : Plan → Outcome (List ℕ) = λ P. let a = c.args in overview_outcome P ((let a = c.args in scramble_words a.shift_x a.shift_y a.flips_x.now a.flips_y.now)) a.level a.m a.a a.block a.columns.now a.rows.now a.answers.now in the_with_plan)) c.pair_plan-plan.ensures ∙ sym (goes_on c.args.words.now c.pair_answer-answer.ensures _ c.if-answer-ne0.false)
+goes_through : (c : goal.After-pair_plan-plan) → (let a = c.args in overview_outcome c.pair_plan-plan.result ((let a = c.args in
+    scramble_words a.shift_x a.shift_y a.flips_x.now a.flips_y.now)) a.level a.m a.a a.block a.columns.now a.rows.now a.answers.now)
+    ≡ (let a = c.args in pair_overview_outcome a.words.now ((let a = c.args in
+    scramble_words a.shift_x a.shift_y a.flips_x.now a.flips_y.now)) a.level a.m a.a a.block a.columns.now a.rows.now a.answers.now)
+goes_through c = ap ((let the_with_plan : Plan → Outcome (List ℕ) = λ P. let a = c.args in overview_outcome P ((let a = c.args in
+    scramble_words a.shift_x a.shift_y a.flips_x.now a.flips_y.now)) a.level a.m a.a a.block a.columns.now a.rows.now a.answers.now in
+    the_with_plan)) c.pair_plan-plan.ensures ∙ sym (goes_on c.args.words.now c.pair_answer-answer.ensures _ c.if-answer-ne0.false)
 
 pub returns-then-answer-ne0 : goal.returns-then-answer-ne0
 returns-then-answer-ne0 c =

@@ -48,7 +48,9 @@ decides c =
     (subst (λ (k : ℕ). a.n < k) c.record_count.ensures c.if-record_count-n.false)
 
 pub returns-in-Refused : goal.returns-in-Refused
-returns-in-Refused c = sym (decides (goal.at.returns-in-Refused c).After-judge-judged ∙ judged-refused tt _ _ (told (goal.at.returns-in-Refused c).After-judge-judged ∙ ap of_judgement c.in-Refused.is))
+returns-in-Refused c = sym (decides (goal.at.returns-in-Refused c).After-judge-judged
+    ∙ judged-refused tt _ _ (told (goal.at.returns-in-Refused c).After-judge-judged ∙ ap of_judgement c.in-Refused.is))
 
 pub returns-in-Accepted : goal.returns-in-Accepted
-returns-in-Accepted c = sym (decides (goal.at.returns-in-Accepted c).After-judge-judged ∙ judged-accepted tt _ _ (told (goal.at.returns-in-Accepted c).After-judge-judged ∙ ap of_judgement c.in-Accepted.is))
+returns-in-Accepted c = sym (decides (goal.at.returns-in-Accepted c).After-judge-judged
+    ∙ judged-accepted tt _ _ (told (goal.at.returns-in-Accepted c).After-judge-judged ∙ ap of_judgement c.in-Accepted.is))

@@ -14,7 +14,8 @@ returns-then-x-ne-FLIP_BYTES c =
 pub returns-then-y-ne-FLIP_BYTES : goal.returns-then-y-ne-FLIP_BYTES
 returns-then-y-ne-FLIP_BYTES c =
     let a = c.args in
-    let both = load_refused (flips_of a.x.now a.y.now) (refuses-y a.x.now a.y.now c.if-y-ne-FLIP_BYTES.true) c.refused-then-y-ne-FLIP_BYTES.ensures.answer
+    let both = load_refused (flips_of a.x.now a.y.now) (refuses-y a.x.now a.y.now c.if-y-ne-FLIP_BYTES.true)
+        c.refused-then-y-ne-FLIP_BYTES.ensures.answer
     c.refused-then-y-ne-FLIP_BYTES.ensures.flips in record { answer = both.0; flips = both.1 }
 
 pub returns-then-x-ge-UNUSED_SET : goal.returns-then-x-ge-UNUSED_SET
@@ -31,7 +32,8 @@ returns-then-y-ge-UNUSED_SET c =
     let set = bit_set a.y.now c.if-y-ge-UNUSED_SET.true (omega (arith, c.type_inv.y 31)) in
     let both = load_refused (flips_of a.x.now a.y.now)
     (refuses_bit_y a.x.now a.y.now c.if-x-ne-FLIP_BYTES.false
-    c.if-y-ne-FLIP_BYTES.false set) c.refused-then-y-ge-UNUSED_SET.ensures.answer c.refused-then-y-ge-UNUSED_SET.ensures.flips in record { answer = both.0; flips = both.1 }
+    c.if-y-ne-FLIP_BYTES.false set) c.refused-then-y-ge-UNUSED_SET.ensures.answer c.refused-then-y-ge-UNUSED_SET.ensures.flips in
+        record { answer = both.0; flips = both.1 }
 
 pub returns : goal.returns
 returns c =

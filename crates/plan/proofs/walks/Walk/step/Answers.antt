@@ -28,17 +28,21 @@ taken : (d : goal.In-Accepted) {t : Stepped Visit}
     → let a = d.args in accepted t ≡ step_outcome a.plan (scramble_of a.shift a.flips_x.now a.flips_y.now) (of_walk a.self)
 taken d made =
     let l = d.load-loaded in
-    gives d.args.shift ((flips_of d.args.flips_x.now d.args.flips_y.now)) l.ensures.answer d.in-Accepted.is ((let the_under : Scramble → Stepped Visit = λ scramble. step (visit (sequence d.args.plan scramble)) last_index (of_walk d.args.self) in the_under)) l.ensures.flips made
+    gives d.args.shift ((flips_of d.args.flips_x.now d.args.flips_y.now)) l.ensures.answer d.in-Accepted.is ((let the_under : Scramble
+        → Stepped Visit = λ scramble. step (visit (sequence d.args.plan scramble)) last_index (of_walk d.args.self) in
+        the_under)) l.ensures.flips made
 
 pub returns-in-Refused : goal.returns-in-Refused
 returns-in-Refused c =
     let both = step-refused (of_walk c.args.self)
-    (flips-stop (lent (goal.at.returns-in-Refused c).Start) c.load-loaded.ensures.answer c.in-Refused.is (accepted (under (goal.at.returns-in-Refused c).Start (scramble_of c.args.shift
+    (flips-stop (lent (goal.at.returns-in-Refused c).Start) c.load-loaded.ensures.answer c.in-Refused.is (accepted (under
+        (goal.at.returns-in-Refused c).Start (scramble_of c.args.shift
     c.args.flips_x.now c.args.flips_y.now)))) in record { step = both.0; walk = both.1 }
 
 pub returns-then-left-eq0 : goal.returns-then-left-eq0
 unfolding step
-returns-then-left-eq0 c = let both = step_taken (of_walk c.args.self) (taken (goal.at.returns-then-left-eq0 c).In-Accepted (simp (eq-eqb _ _ c.if-left-eq0.true, step))) in record { step = both.0; walk = both.1 }
+returns-then-left-eq0 c = let both = step_taken (of_walk c.args.self) (taken (goal.at.returns-then-left-eq0 c).In-Accepted (simp
+    (eq-eqb _ _ c.if-left-eq0.true, step))) in record { step = both.0; walk = both.1 }
 
 pub returns-then-next : goal.returns-then-next
 unfolding step

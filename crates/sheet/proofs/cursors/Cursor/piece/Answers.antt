@@ -1,6 +1,7 @@
 -- `Cursor::piece`: what stands in the buffer, with the text to come, stays the same, line by line.
 -- Assumes nothing.
-use Rattle.std.proofs.Common.{◌≡◌, ℕ, ◌+◌, ◌<◌, ◌≤◌, ◌⊎◌, List, [], ◌++◌, length, take, sym, refl, ap, ◌∙◌, subst, inl, inr, zero-le, arith, length-take-le}
+use Rattle.std.proofs.Common.{◌≡◌, ℕ, ◌+◌, ◌<◌, ◌≤◌, ◌⊎◌, List, [], ◌++◌, length, take, sym, refl, ap, ◌∙◌, subst, inl, inr, zero-le, arith}
+use Rattle.std.proofs.Common.{length-take-le}
 use Rattle.text.proofs.Puts.{writes_keeps_length}
 use Rattle.text.proofs.Filling.{joined, beyond}
 use Rattle.listing.specs.Listing.{longest_line}
@@ -59,7 +60,8 @@ turn c =
     let l = c.loop-out in
     let u = c.put_line-line in
     after a.file.now a.self l.cursor u.result.next a.out.now l.out u.new.out l.len u.result.len
-    ((let the_room : c.loop-out.len + longest_line ≤ length c.loop-out.out = omega (arith, c.loop-out.invariant.0, c.loop-out-test.true) in the_room)) u.ensures l.invariant
+    ((let the_room : c.loop-out.len + longest_line ≤ length c.loop-out.out = omega (arith, c.loop-out.invariant.0, c.loop-out-test.true) in
+    the_room)) u.ensures l.invariant
 
 pub shape_of-out-then-line-len : goal.shape_of-out-then-line-len
 shape_of-out-then-line-len c = (turn (goal.at.shape_of-out-then-line-len c).After-put_line-line).still.1

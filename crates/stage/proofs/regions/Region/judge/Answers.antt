@@ -16,9 +16,11 @@ inside : (c : goal.Else-not-within) → not (within c.args.self) ≡ false
 inside c = sym (ap not c.within.ensures) ∙ c.if-not-within.false-raw
 
 pub returns-then-not-takes : goal.returns-then-not-takes
-returns-then-not-takes c = sym (first_passes _ 10 _ (inside (goal.at.returns-then-not-takes c).Else-not-within) ∙ first-refuses _ 16 [] (sym (ap not c.takes.ensures) ∙ c.if-not-takes.true-raw))
+returns-then-not-takes c = sym (first_passes _ 10 _ (inside (goal.at.returns-then-not-takes c).Else-not-within)
+    ∙ first-refuses _ 16 [] (sym (ap not c.takes.ensures) ∙ c.if-not-takes.true-raw))
 
 pub returns : goal.returns
 returns c =
-    sym (first_passes _ 10 _ (inside (goal.at.returns c).Else-not-within) ∙ first_passes _ 16 [] (sym (ap not c.takes.ensures) ∙ c.if-not-takes.false-raw)
+    sym (first_passes _ 10 _ (inside (goal.at.returns c).Else-not-within) ∙ first_passes _ 16 [] (sym (ap not c.takes.ensures)
+        ∙ c.if-not-takes.false-raw)
     ∙ first-none _)

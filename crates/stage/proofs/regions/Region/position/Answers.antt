@@ -17,7 +17,8 @@ told : (c : goal.After-judge-judged) → first (position_tests c.args.field c.ar
 told c = sym c.judge-judged.ensures
 
 pub returns-in-Refused : goal.returns-in-Refused
-returns-in-Refused c = sym (refused_before tt (accepted _) _ (told (goal.at.returns-in-Refused c).After-judge-judged ∙ ap of_judgement c.in-Refused.is))
+returns-in-Refused c = sym (refused_before tt (accepted _) _ (told (goal.at.returns-in-Refused c).After-judge-judged
+    ∙ ap of_judgement c.in-Refused.is))
 
 pub returns-in-Accepted : goal.returns-in-Accepted
 returns-in-Accepted c =
