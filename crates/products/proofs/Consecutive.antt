@@ -196,5 +196,5 @@ module _ {C : List ℕ} {t : ℕ} {masks : List ℕ} {start k : ℕ} {l buffer :
         ∙ ap₂ (plus 2) (now.word_is here) (running_sum C sums e 5 five ∙ ap (product 2 C) six_ones)
         ∙ group-product C (start + k) 63 whole sixty-three in
         next_word C sums e (bit_xor word (get_or sums 5 0)) (start + k + 63) z (turn ∙ ap (count_trailing_zeros 32) (omega arith)) (omega
-            (arith, h)) last
+        (arith, h)) last
         ∙ ap (product 2 C) (omega arith)

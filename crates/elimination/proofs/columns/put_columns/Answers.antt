@@ -35,7 +35,7 @@ pub loop-c-preserved : goal.loop-c-preserved
 loop-c-preserved c =
     let l = c.loop-c in
     let column = joined-whole _ _ _ c.join.ensures (fits (goal.at.loop-c-preserved c).After-top-in-loop-c)
-        ∙ cell (goal.at.loop-c-preserved c).After-top-in-loop-c in
+    ∙ cell (goal.at.loop-c-preserved c).After-top-in-loop-c in
     (omega arith, putting_more l.invariant.1 (omega arith) c.join.result column)
 
 pub returns : goal.returns

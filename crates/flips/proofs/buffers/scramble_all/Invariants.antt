@@ -11,7 +11,7 @@ abbrev pub invariant-loop-k : goal.invariant-loop-k
 invariant-loop-k l =
     (l.k ≤ length l.initial.words) × (length l.words ≡ length l.initial.words)
     × ((flips : List ℕ) → l.masks ≡ map (mask flips l.shift) (range 0 256)
-        → map (scramble_word flips l.shift) (take l.k l.initial.words) ++ drop l.k l.initial.words ≡ l.words)
+    → map (scramble_word flips l.shift) (take l.k l.initial.words) ++ drop l.k l.initial.words ≡ l.words)
 
 abbrev pub decreases-loop-k : goal.decreases-loop-k
 decreases-loop-k l = length l.initial.words - l.k

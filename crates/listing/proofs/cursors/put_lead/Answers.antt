@@ -43,4 +43,4 @@ returns-in-Refused c =
     let both = subst (λ (k : Lead). Led d (lead_text k) u.result u.new.out) (sym c.in-Refused.is)
     (led d (refused_text n) u.result u.new.out
     (from_if_room longest_refusal d 0 (refused_text n) u.result u.new.out (omega (arith, c.requires)) (u.ensures.end, u.ensures.text))) in
-        record { end = both.0; text = both.1 }
+    record { end = both.0; text = both.1 }

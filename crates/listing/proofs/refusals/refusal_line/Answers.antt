@@ -19,7 +19,7 @@ pub returns-then-not-has_room : goal.returns-then-not-has_room
 returns-then-not-has_room c =
     let a = c.args in
     let both = without_room longest_refusal a.out.now a.at (refused_text a.number) (sym c.has_room.ensures ∙ c.if-not-has_room.true) in
-        record { end = both.0; text = both.1 }
+    record { end = both.0; text = both.1 }
 
 room : (c : goal.Else-not-has_room) → leb (c.args.at + longest_refusal) (length c.args.out.now) ≡ true
 room c = sym c.has_room.ensures ∙ c.if-not-has_room.false

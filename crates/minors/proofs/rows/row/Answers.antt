@@ -18,9 +18,11 @@ overflow_add-word c = let small = from-fits c.loop-c.invariant.1 (omega arith) i
 pub loop-c-preserved : goal.loop-c-preserved
 loop-c-preserved c = let a = c.args in
     let l = c.loop-c in
-    let place : 31 - a.r ≡ 32 - suc a.r = omega arith in
-    (omega arith, from_more l.invariant.1 _ (omega arith) l.invariant.0 (ap (λ (k : ℕ). get_or a.columns (l.c - 1) 0 / 2 ^ k % 2) place)
-        (omega arith))
+    let place : 31 - a.r ≡ 32 - suc a.r = omega arith in (
+      omega arith,
+      from_more l.invariant.1 _ (omega arith) l.invariant.0 (ap (λ (k : ℕ). get_or a.columns (l.c - 1) 0 / 2 ^ k % 2) place)
+          (omega arith),
+    )
 
 pub returns : goal.returns
 returns c = from_all c.loop-c.invariant.1 (omega arith)

@@ -14,7 +14,7 @@ made : (c : goal.After-singles_at-pointed) → pair_singles_outcome c.args.words
     scramble_words a.shift_x a.shift_y a.flips_x.now a.flips_y.now)) c.args.index ≡ of_pointed_singles c.singles_at-pointed.result
 made c =
     gives c.args.words.now c.pair_answer-answer.ensures c.if-answer-ne0.false (λ P. singles_outcome P ((let a = c.args in
-        scramble_words a.shift_x a.shift_y a.flips_x.now a.flips_y.now)) c.args.index)
+    scramble_words a.shift_x a.shift_y a.flips_x.now a.flips_y.now)) c.args.index)
     c.pair_plan-plan.ensures c.singles_at-pointed.ensures
 
 pub returns-then-answer-ne0 : goal.returns-then-answer-ne0

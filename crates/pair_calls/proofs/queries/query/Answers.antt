@@ -15,13 +15,13 @@ use Rattle.pair_calls.proofs.queries.query.Goals.{After-query-located}
 -- what a query of the loaded matrices came to is what the call comes to
 located : (c : goal.After-query-located) → let a = c.args in
     pair_query_outcome a.words.now ((let a = c.args in
-        scramble_words a.shift_x a.shift_y a.flips_x.now a.flips_y.now)) a.level a.m a.a a.column a.row a.block ≡ of_located c.query-located.result
+    scramble_words a.shift_x a.shift_y a.flips_x.now a.flips_y.now)) a.level a.m a.a a.column a.row a.block ≡ of_located c.query-located.result
 located c =
     let a = c.args in
     gives a.words.now c.pair_answer-answer.ensures c.if-answer-ne0.false
     (λ P. query_outcome P ((let a = c.args in
-        scramble_words a.shift_x a.shift_y a.flips_x.now a.flips_y.now)) a.level a.m a.a a.block a.column a.row) c.pair_plan-plan.ensures
-        c.query-located.ensures
+    scramble_words a.shift_x a.shift_y a.flips_x.now a.flips_y.now)) a.level a.m a.a a.block a.column a.row) c.pair_plan-plan.ensures
+    c.query-located.ensures
 
 pub returns-then-answer-ne0 : goal.returns-then-answer-ne0
 returns-then-answer-ne0 c =

@@ -59,7 +59,7 @@ pub returns-then-goes_past : goal.returns-then-goes_past
 returns-then-goes_past c =
     let a = c.args in
     let both = leaves index_count (lent (goal.at.returns-then-goes_past c).Start) a.start a.xs.now a.ys.now (S
-        (goal.at.returns-then-goes_past c).Start)
+    (goal.at.returns-then-goes_past c).Start)
     (refused-range index_count (lent (goal.at.returns-then-goes_past c).Start) a.start a.xs.now a.ys.now c.load-loaded.ensures.answer c.in-Accepted.is
     c.if-n-ys.false (sym c.goes_past.ensures ∙ c.if-goes_past.true)) in record { answer = both.0; first = both.1.0; second = both.1.1 }
 

@@ -38,16 +38,16 @@ head-filled c =
 
 groups_filled : (c : goal.After-in_groups) → let a = c.args in
     Filled ((let a = c.args in product_masked a.bits a.masks.now a.axis.columns)) a.start ((c.ahead-head.result +
-        (length c.args.out.now - c.ahead-head.result) / 64 * 64)) a.out.now (grouped c)
+    (length c.args.out.now - c.ahead-head.result) / 64 * 64)) a.out.now (grouped c)
 groups_filled c =
     let a = c.args in
     filled-lent ((let the_head_filled : let a = c.args in Filled ((let a = c.args in
-        product_masked a.bits a.masks.now a.axis.columns)) a.start (c.ahead-head.result) a.out.now ((put_mid 0 (c.ahead-head.result) c.args.out.now
-        c.singly.new.out)) = let a = c.args in filled-lent filled_none (c.ahead-head.result) (c.ahead-head.result) a.start c.singly.new.out
-        (omega arith) c.singly.ensures (omega arith) c.ahead-head.ensures.0 in
-        the_head_filled)) ((c.ahead-head.result + (length c.args.out.now - c.ahead-head.result) / 64 * 64) - c.ahead-head.result)
-        ((c.ahead-head.result + (length c.args.out.now - c.ahead-head.result) / 64 * 64)) (a.start + c.ahead-head.result) c.in_groups.new.out refl
-        c.in_groups.ensures
+    product_masked a.bits a.masks.now a.axis.columns)) a.start (c.ahead-head.result) a.out.now ((put_mid 0 (c.ahead-head.result) c.args.out.now
+    c.singly.new.out)) = let a = c.args in filled-lent filled_none (c.ahead-head.result) (c.ahead-head.result) a.start c.singly.new.out
+    (omega arith) c.singly.ensures (omega arith) c.ahead-head.ensures.0 in
+    the_head_filled)) ((c.ahead-head.result + (length c.args.out.now - c.ahead-head.result) / 64 * 64) - c.ahead-head.result)
+    ((c.ahead-head.result + (length c.args.out.now - c.ahead-head.result) / 64 * 64)) (a.start + c.ahead-head.result) c.in_groups.new.out refl
+    c.in_groups.ensures
     (omega arith) (omega (arith, c.ahead-head.ensures.0))
 
 -- as many as were lent
@@ -81,12 +81,23 @@ pub singly-requires-then-whole-n : goal.singly-requires-then-whole-n
 singly-requires-then-whole-n c =
     let n = length (grouped (goal.at.singly-requires-then-whole-n c).After-in_groups) - whole (goal.at.singly-requires-then-whole-n c).After-singly in
     let room : n ≤ length (drop (whole (goal.at.singly-requires-then-whole-n c).After-singly) (grouped (goal.at.singly-requires-then-whole-n
-        c).After-in_groups)) = omega (arith, length-drop (whole (goal.at.singly-requires-then-whole-n c).After-singly) (grouped
-        (goal.at.singly-requires-then-whole-n c).After-in_groups)) in
+    c).After-in_groups)) = omega (
+      arith,
+      length-drop (whole (goal.at.singly-requires-then-whole-n c).After-singly) (grouped
+          (goal.at.singly-requires-then-whole-n c).After-in_groups),
+    ) in
     let e = length-take-le n (drop (whole (goal.at.singly-requires-then-whole-n c).After-singly) (grouped (goal.at.singly-requires-then-whole-n
-        c).After-in_groups)) room in record {
-      sums_value = (c.requires.sums_value.0, omega (arith, e, (groups_filled (goal.at.singly-requires-then-whole-n c).After-in_groups).long,
-          c.requires.sums_value.1, c.if-whole-n.true));
+    c).After-in_groups)) room in record {
+      sums_value = (
+        c.requires.sums_value.0,
+        omega (
+          arith,
+          e,
+          (groups_filled (goal.at.singly-requires-then-whole-n c).After-in_groups).long,
+          c.requires.sums_value.1,
+          c.if-whole-n.true,
+        ),
+      );
       bits_bound = (omega (arith, c.requires.bits_bound.0), c.requires.bits_bound.1);
     }
 
@@ -95,7 +106,7 @@ returns-then-whole-n c =
     let now = groups_filled (goal.at.returns-then-whole-n c).After-in_groups in
     let n = length c.args.out.now in
     filled_all (filled-lent now (length (grouped (goal.at.returns-then-whole-n c).After-in_groups) - whole
-        (goal.at.returns-then-whole-n c).After-singly) n
+    (goal.at.returns-then-whole-n c).After-singly) n
     (c.args.start + whole (goal.at.returns-then-whole-n c).After-singly) c.singly-then-whole-n.new.out refl
     c.singly-then-whole-n.ensures (omega (arith, now.long, c.ahead-head.ensures.0)) (omega arith)) refl
 

@@ -38,8 +38,8 @@ one_more c =
     let i = a.start + l.k in
     let none : top 2 32 0 l.word ≡ 0 = ap (top 2 32 0) (l.invariant.0.word_is here)
     ∙ top-none one_lt_two 32 (product 2 a.axis.columns i) (product_lt one_lt_two 32 a.axis.columns i ((let the_words : Below
-        (2 ^ 32) c.args.axis.columns = below_of (2 ^ 32) c.args.axis.columns (λ t. let f : Fits w32 (get_or c.args.axis.columns t 0) = search rules
-        in f.fits) in the_words))) in
+    (2 ^ 32) c.args.axis.columns = below_of (2 ^ 32) c.args.axis.columns (λ t. let f : Fits w32 (get_or c.args.axis.columns t 0) = search rules
+    in f.fits) in the_words))) in
     let copied = own.ensures ∙ copied_whole (replicate 64 0) a.table.now (sym many) ∙ c.requires.table_value in (
       here,
       omega (arith, here, l.invariant.1, p.1),

@@ -57,7 +57,7 @@ put_group-requires c =
     let l = c.loop-k in (
       length-take-le (c.table_of-table.result + 64 - c.table_of-table.result) (drop c.table_of-table.result c.args.tables.now)
           (omega (arith, length-drop c.table_of-table.result c.args.tables.now, chosen (goal.at.put_group-requires c).After-table_of-table))
-              ∙ omega arith,
+          ∙ omega arith,
       length-take-le (l.k + 64 - l.k) (drop l.k l.out)
           (omega (
             arith,

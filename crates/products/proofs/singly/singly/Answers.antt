@@ -63,7 +63,7 @@ loop-k-preserved-then-k-out c =
       filled = now.1;
       word_is = λ more. next_word a.axis.columns a.axis.sums c.requires.sums_value.0 l.word (a.start + l.k) c.turned.result
           (c.turned.ensures.0 ∙ ap (count_trailing_zeros 32) (sym at)) (omega (arith, more-fits (goal.at.loop-k-preserved-then-k-out c).Then-k-out))
-              (l.invariant.word_is here)
+          (l.invariant.word_is here)
           ∙ ap (product 2 a.axis.columns) at;
     }
 

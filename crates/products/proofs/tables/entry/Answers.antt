@@ -28,12 +28,16 @@ pub offset_bounds-masks-v : goal.offset_bounds-masks-v
 offset_bounds-masks-v c = omega (arith, small c, c.requires.1)
 
 pub bounds-masks-v : goal.bounds-masks-v
-bounds-masks-v c = omega (arith, (let the_small : bit_xor c.args.v c.top.result < 2 ^ c.args.bits = let a = c.args in
-    subst (λ (n : ℕ). n < 2 ^ a.bits) (sym ((let the_place : let a = c.args in
-    bit_xor a.v c.top.result ≡ plus 2 a.v (top 2 32 a.bits a.product) = let v = c.args.v in
-    sym (plus-two v c.top.result) ∙ ap (plus 2 v) c.top.ensures in
-    the_place))) (plus_lt one_lt_two a.bits a.v (top 2 32 a.bits a.product) c.requires.2 (top_lt one_lt_two 32 a.bits a.product c.requires.0
-    c.ranges.product.fits)) in the_small), c.requires.1)
+bounds-masks-v c = omega (
+  arith,
+  (let the_small : bit_xor c.args.v c.top.result < 2 ^ c.args.bits = let a = c.args in
+      subst (λ (n : ℕ). n < 2 ^ a.bits) (sym ((let the_place : let a = c.args in
+      bit_xor a.v c.top.result ≡ plus 2 a.v (top 2 32 a.bits a.product) = let v = c.args.v in
+      sym (plus-two v c.top.result) ∙ ap (plus 2 v) c.top.ensures in
+      the_place))) (plus_lt one_lt_two a.bits a.v (top 2 32 a.bits a.product) c.requires.2 (top_lt one_lt_two 32 a.bits a.product c.requires.0
+      c.ranges.product.fits)) in the_small),
+  c.requires.1,
+)
 
 pub returns : goal.returns
 returns c =

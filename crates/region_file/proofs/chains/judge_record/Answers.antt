@@ -35,7 +35,7 @@ region-passes c others =
     let tests = position_tests a.field a.named.region in
     first-append tests others (accepted tt)
     ∙ passed_before tt (first others (accepted tt)) tests ((let the_told : first (position_tests c.args.field c.args.named.region) (accepted tt)
-        ≡ of_judgement c.judge-judged.result = sym c.judge-judged.ensures in the_told) ∙ ap of_judgement c.in_default.is)
+    ≡ of_judgement c.judge-judged.result = sym c.judge-judged.ensures in the_told) ∙ ap of_judgement c.in_default.is)
 
 pub returns-then-named-gt-MOST_VISITS : goal.returns-then-named-gt-MOST_VISITS
 returns-then-named-gt-MOST_VISITS c =

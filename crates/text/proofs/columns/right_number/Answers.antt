@@ -40,7 +40,7 @@ put_number-requires c =
     let u = c.put_margin-next in
     text-fits a.columns longest_number (decimal a.n) (number_text a.n a.last) a.last (number_text_is a.n a.last)
     (number_longest a.n a.last) a.out.now a.at k.result k.ensures (room (goal.at.put_number-requires c).Else-not-has_columns) u.result u.new.out
-        (u.ensures.end, u.ensures.text)
+    (u.ensures.end, u.ensures.text)
 
 pub returns : goal.returns
 returns c =
@@ -52,5 +52,5 @@ returns c =
     v.new.out (has (goal.at.returns c).Else-not-has_columns)
     (margin_then a.columns longest_number (decimal a.n) (number_text a.n a.last) a.last (number_text_is a.n a.last)
     (number_longest a.n a.last) a.out.now a.at k.result k.ensures (room (goal.at.returns c).Else-not-has_columns) u.result u.new.out
-        (u.ensures.end, u.ensures.text) v.result
+    (u.ensures.end, u.ensures.text) v.result
     v.new.out (v.ensures.end, v.ensures.text)) in record { end = both.0; text = both.1 }

@@ -43,7 +43,7 @@ put_margin-next-requires c =
     let a = c.args in
     margin_fits a.columns longest_signed (signed_decimal a.z) (signed_text a.z a.last) a.last (signed_text_is a.z a.last)
     (signed_longest a.z a.last) a.out.now a.at c.signed_width.result (counted (goal.at.put_margin-next-requires c).After-signed_width) (room
-        (goal.at.put_margin-next-requires c).Else-not-has_columns)
+    (goal.at.put_margin-next-requires c).Else-not-has_columns)
 
 pub put_signed-requires : goal.put_signed-requires
 put_signed-requires c =
@@ -52,7 +52,7 @@ put_signed-requires c =
     subst (λ (z : ℤ). u.result + length (signed_text z a.last) ≤ length u.new.out) (sym (same (goal.at.put_signed-requires c).Start))
     (text-fits a.columns longest_signed (signed_decimal a.z) (signed_text a.z a.last) a.last (signed_text_is a.z a.last)
     (signed_longest a.z a.last) a.out.now a.at c.signed_width.result (counted (goal.at.put_signed-requires c).After-signed_width) (room
-        (goal.at.put_signed-requires c).Else-not-has_columns) u.result u.new.out (u.ensures.end, u.ensures.text))
+    (goal.at.put_signed-requires c).Else-not-has_columns) u.result u.new.out (u.ensures.end, u.ensures.text))
 
 pub returns : goal.returns
 returns c =
@@ -63,7 +63,7 @@ returns c =
     v.new.out (has (goal.at.returns c).Else-not-has_columns)
     (margin_then a.columns longest_signed (signed_decimal a.z) (signed_text a.z a.last) a.last (signed_text_is a.z a.last)
     (signed_longest a.z a.last) a.out.now a.at c.signed_width.result (counted (goal.at.returns c).After-signed_width) (room
-        (goal.at.returns c).Else-not-has_columns) u.result u.new.out (u.ensures.end, u.ensures.text) v.result
+    (goal.at.returns c).Else-not-has_columns) u.result u.new.out (u.ensures.end, u.ensures.text) v.result
     v.new.out
     (subst (λ (z : ℤ). Writes u.new.out u.result (signed_text z a.last) v.result v.new.out) (same (goal.at.returns c).Start)
     (v.ensures.end, v.ensures.text))) in record { end = both.0; text = both.1 }

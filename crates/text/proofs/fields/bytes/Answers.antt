@@ -10,7 +10,7 @@ pub returns-then-not-has_room : goal.returns-then-not-has_room
 returns-then-not-has_room c =
     let a = c.args in
     let both = without_room (length a.text.now) a.out.now a.at a.text.now (sym c.has_room.ensures ∙ c.if-not-has_room.true) in
-        record { end = both.0; text = both.1 }
+    record { end = both.0; text = both.1 }
 
 pub copy-requires : goal.copy-requires
 copy-requires c = leb-true _ _ (sym c.has_room.ensures ∙ c.if-not-has_room.false)

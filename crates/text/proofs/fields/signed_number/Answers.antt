@@ -41,4 +41,4 @@ returns c =
     let both = to_if_room longest_signed a.out.now a.at (signed_text a.z a.last) u.result u.new.out
     (room (goal.at.returns c).Else-not-has_room)
     (subst (λ (z : ℤ). Writes a.out.now a.at (signed_text z a.last) u.result u.new.out) e (u.ensures.end, u.ensures.text)) in
-        record { end = both.0; text = both.1 }
+    record { end = both.0; text = both.1 }

@@ -14,4 +14,4 @@ returns c =
     let u = c.put_bytes in
     let e = two-digits-bytes w.result a.n c.requires.n_bound w.ensures in
     let both = subst (λ (s : List ℕ). Writes a.out.now a.at s u.result u.new.out) e (u.ensures.end, u.ensures.text) in
-        record { end = both.0; text = both.1 }
+    record { end = both.0; text = both.1 }

@@ -53,8 +53,15 @@ put_four_digits-third-requires c =
     let u = c.put_up_to_four-second in
     let m = four_more (goal.at.put_four_digits-third-requires c).Else-n-lt10000 in record {
       n_bound = omega arith;
-      at_in_bounds = omega (arith, c.requires, u.ensures.end, u.auto.out, m, eight_more (goal.at.put_four_digits-third-requires
-          c).Else-upper-lt10000);
+      at_in_bounds = omega (
+        arith,
+        c.requires,
+        u.ensures.end,
+        u.auto.out,
+        m,
+        eight_more (goal.at.put_four_digits-third-requires
+            c).Else-upper-lt10000,
+      );
     }
 
 pub put_four_digits-requires-2 : goal.put_four_digits-requires-2
@@ -64,8 +71,17 @@ put_four_digits-requires-2 c =
     let k : length v.new.out ≡ length u.new.out = v.auto.out in
     let m = four_more (goal.at.put_four_digits-requires-2 c).Else-n-lt10000 in record {
       n_bound = omega arith;
-      at_in_bounds = omega (arith, c.requires, u.ensures.end, u.auto.out, v.ensures.end, k, m, eight_more (goal.at.put_four_digits-requires-2
-          c).Else-upper-lt10000);
+      at_in_bounds = omega (
+        arith,
+        c.requires,
+        u.ensures.end,
+        u.auto.out,
+        v.ensures.end,
+        k,
+        m,
+        eight_more (goal.at.put_four_digits-requires-2
+            c).Else-upper-lt10000,
+      );
     }
 
 pub returns : goal.returns

@@ -23,7 +23,7 @@ returns-then-z-lt0 c =
     let a = c.args in
     let b = c.put_byte in
     let both = subst (λ (s : List ℕ). Writes a.out.now a.at s b.result b.new.out) (sym (minus (goal.at.returns-then-z-lt0 c).Then-z-lt0))
-        (b.ensures.end, b.ensures.text) in record { end = both.0; text = both.1 }
+    (b.ensures.end, b.ensures.text) in record { end = both.0; text = both.1 }
 
 pub returns : goal.returns
 returns c =

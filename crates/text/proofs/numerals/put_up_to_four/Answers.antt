@@ -31,4 +31,4 @@ returns c =
     let v = c.put_two_digits in
     let both = writes_last_two a.out.now a.at a.n u.result u.new.out v.result v.new.out c.ranges.n.fits
     c.requires.n_in_bounds c.if-n-lt100.false (u.ensures.end, u.ensures.text) (v.ensures.end, v.ensures.text) in
-        record { end = both.0; text = both.1 }
+    record { end = both.0; text = both.1 }

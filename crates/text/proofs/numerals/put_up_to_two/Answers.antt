@@ -20,7 +20,7 @@ returns-then-n-lt10 c =
     let u = c.put_byte in
     let e = decimal-below_10 a.n c.if-n-lt10.true in
     let both = subst (λ (s : List ℕ). Writes a.out.now a.at s u.result u.new.out) (sym e) (u.ensures.end, u.ensures.text) in
-        record { end = both.0; text = both.1 }
+    record { end = both.0; text = both.1 }
 
 pub put_two_digits-requires : goal.put_two_digits-requires
 put_two_digits-requires c =

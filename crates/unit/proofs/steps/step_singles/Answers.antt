@@ -27,17 +27,17 @@ told is same = is ∙ ap (λ (t : Step). singles_answer (of_step t)) (sym same)
 pub returns-in-Refused : goal.returns-in-Refused
 returns-in-Refused c =
     let both = singles_step c.args.plan (scramble (goal.at.returns-in-Refused c).Start) (of_walk c.args.walk)
-        (told refl c.in-Refused.is) c.step-stepped.ensures.step
+    (told refl c.in-Refused.is) c.step-stepped.ensures.step
     c.step-stepped.ensures.walk in record { step = both.0; walk = both.1 }
 
 pub returns-in-Ended : goal.returns-in-Ended
 returns-in-Ended c =
     let both = singles_step c.args.plan (scramble (goal.at.returns-in-Ended c).Start) (of_walk c.args.walk)
-        (told refl c.in-Ended.is) c.step-stepped.ensures.step
+    (told refl c.in-Ended.is) c.step-stepped.ensures.step
     c.step-stepped.ensures.walk in record { step = both.0; walk = both.1 }
 
 pub returns-in-Visited : goal.returns-in-Visited
 returns-in-Visited c =
     let both = singles_step c.args.plan (scramble (goal.at.returns-in-Visited c).Start) (of_walk c.args.walk)
     (told (ap (visited_at c.in-Visited.visit.index) c.singles_of-at.ensures) c.in-Visited.is) c.step-stepped.ensures.step
-        c.step-stepped.ensures.walk in record { step = both.0; walk = both.1 }
+    c.step-stepped.ensures.walk in record { step = both.0; walk = both.1 }

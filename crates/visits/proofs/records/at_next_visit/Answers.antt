@@ -42,8 +42,11 @@ returns-then-entry-gt0 c =
     let e = c.planned-entry.ensures in
     let h = sym c.listable.ensures ∙ c.if-not-listable.false in
     let comes = start_comes file i.left i.n c.loop-left-test.true i.invariant.1 h in
-    record { same = ap (λ (r : Record). visits_to_come file (start_of i.n r (i.left - 1))) e ∙ comes
-        ∙ i.invariant.2; ready = inl c.if-entry-gt0.true }
+    record {
+      same = ap (λ (r : Record). visits_to_come file (start_of i.n r (i.left - 1))) e ∙ comes
+          ∙ i.invariant.2;
+      ready = inl c.if-entry-gt0.true;
+    }
 
 pub loop-left-preserved : goal.loop-left-preserved
 loop-left-preserved c =

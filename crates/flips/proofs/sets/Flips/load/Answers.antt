@@ -15,7 +15,7 @@ pub returns-then-y-ne-FLIP_BYTES : goal.returns-then-y-ne-FLIP_BYTES
 returns-then-y-ne-FLIP_BYTES c =
     let a = c.args in
     let both = load_refused (flips_of a.x.now a.y.now) (refuses-y a.x.now a.y.now c.if-y-ne-FLIP_BYTES.true)
-        c.refused-then-y-ne-FLIP_BYTES.ensures.answer
+    c.refused-then-y-ne-FLIP_BYTES.ensures.answer
     c.refused-then-y-ne-FLIP_BYTES.ensures.flips in record { answer = both.0; flips = both.1 }
 
 pub returns-then-x-ge-UNUSED_SET : goal.returns-then-x-ge-UNUSED_SET
@@ -33,7 +33,7 @@ returns-then-y-ge-UNUSED_SET c =
     let both = load_refused (flips_of a.x.now a.y.now)
     (refuses_bit_y a.x.now a.y.now c.if-x-ne-FLIP_BYTES.false
     c.if-y-ne-FLIP_BYTES.false set) c.refused-then-y-ge-UNUSED_SET.ensures.answer c.refused-then-y-ge-UNUSED_SET.ensures.flips in
-        record { answer = both.0; flips = both.1 }
+    record { answer = both.0; flips = both.1 }
 
 pub returns : goal.returns
 returns c =

@@ -52,10 +52,10 @@ returns c =
     let L = l.ensures in
     let fits = c.put_lines-reached.ensures.fits in
     let t : length (take c.put_lines-reached.result.len c.put_lines-reached.new.out)
-        ≡ c.put_lines-reached.result.len = length-take-le c.put_lines-reached.result.len c.put_lines-reached.new.out fits in
+    ≡ c.put_lines-reached.result.len = length-take-le c.put_lines-reached.result.len c.put_lines-reached.new.out fits in
     let p : Writes d 0 s u.result c.put_lead-at.new.out = (u.ensures.end ∙ sym (zero-add (length s)), u.ensures.text) in
     let goes_on : (take c.put_lines-reached.result.len c.put_lines-reached.new.out ++ lines (visits_to_come file l.result.walk)
-        ≡ s ++ lines (visits_to_come file a.self.walk)) =
+    ≡ s ++ lines (visits_to_come file a.self.walk)) =
     c.put_lines-reached.ensures.joins ∙ joined d c.put_lead-at.new.out 0 u.result s zero-le p (lines (visits_to_come file a.self.walk)) in record {
       counts = (fits, sym t);
       piece = record { joins = goes_on; stops = λ h. ap lines (c.put_lines-reached.ensures.stops (omega (arith, h, t))) ∙ lines_none };

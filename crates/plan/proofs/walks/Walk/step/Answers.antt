@@ -29,14 +29,14 @@ taken : (d : goal.In-Accepted) {t : Stepped Visit}
 taken d made =
     let l = d.load-loaded in
     gives d.args.shift ((flips_of d.args.flips_x.now d.args.flips_y.now)) l.ensures.answer d.in-Accepted.is ((let the_under : Scramble
-        → Stepped Visit = λ scramble. step (visit (sequence d.args.plan scramble)) last_index (of_walk d.args.self) in
-        the_under)) l.ensures.flips made
+    → Stepped Visit = λ scramble. step (visit (sequence d.args.plan scramble)) last_index (of_walk d.args.self) in
+    the_under)) l.ensures.flips made
 
 pub returns-in-Refused : goal.returns-in-Refused
 returns-in-Refused c =
     let both = step-refused (of_walk c.args.self)
     (flips-stop (lent (goal.at.returns-in-Refused c).Start) c.load-loaded.ensures.answer c.in-Refused.is (accepted (under
-        (goal.at.returns-in-Refused c).Start (scramble_of c.args.shift
+    (goal.at.returns-in-Refused c).Start (scramble_of c.args.shift
     c.args.flips_x.now c.args.flips_y.now)))) in record { step = both.0; walk = both.1 }
 
 pub returns-then-left-eq0 : goal.returns-then-left-eq0

@@ -22,5 +22,5 @@ returns-then-not-takes c = sym (first_passes _ 10 _ (inside (goal.at.returns-the
 pub returns : goal.returns
 returns c =
     sym (first_passes _ 10 _ (inside (goal.at.returns c).Else-not-within) ∙ first_passes _ 16 [] (sym (ap not c.takes.ensures)
-        ∙ c.if-not-takes.false-raw)
+    ∙ c.if-not-takes.false-raw)
     ∙ first-none _)
