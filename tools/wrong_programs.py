@@ -3,8 +3,8 @@ which fact the prover refuses it.
 
 An edit is a file of crates/CRATE/must-fail, which `rt ci` tries, or of crates/CRATE/edits, which tools/edits tries. Its first line says in words
 what is wrong, after `# `. Its line `fact: NAME in FILE` names a fact whose proof must fail, and not only for want of another (FILE in proofs/, without
-the ending; a folder stands for its Proof.antt). The fact of a function without a proof file is `NAME in src/FILE.rt FUNCTION`, as in `returns in src/points.rt
-vektrid_point`, where NAME is the goal that `rt check` prints in brackets. Each `old:` is replaced by the `new:` after it, in the file of the last
+the ending, as in `returns in words/flip/Answers`). The fact of a goal that no file answers is `NAME in src/FILE.rt FUNCTION`, as in `returns in
+src/points.rt vektrid_point`, where NAME is the goal that `rt check` prints in brackets. Each `old:` is replaced by the `new:` after it, in the file of the last
 `file:`, as rt does it: one line, which occurs once in the text that the replacements before it have left.
 """
 import contextlib
