@@ -9,4 +9,4 @@ mod writing;
 
 pub use reading::{FILE_ROOM, read_all};
 pub use words::say_ending;
-pub use writing::{Ending, exit_code, write_piece};
+pub use writing::{exit_code, write_piece};
