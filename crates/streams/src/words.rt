@@ -49,12 +49,7 @@ fn failed(error: &impl Print, what: &[u8], why: io::Error) {
 // Says how it ended, for whoever reads standard error alone: that the text is cut short, in the program's own words and the system's, and that the
 // file is refused. (A text is cut where a write failed, and the system's reason is that of the write. Where a write took nothing and did not fail,
 // the reason is the library's; Linux has no such write.)
-pub fn say_ending(
-    error: &impl Print,
-    written: io::Result<u64>,
-    cannot_write: &[u8],
-    file: &[u8],
-) {
+pub fn say_ending(error: &impl Print, written: io::Result<u64>, cannot_write: &[u8], file: &[u8]) {
     if let Err(why) = written {
         failed(error, cannot_write, why);
     }
