@@ -1,5 +1,6 @@
 -- `prefixes`: the sum is the product with as many ones as columns are in it, and the columns to come stand as they were.
-use Rattle.std.proofs.Common.{◌≡◌, bit_xor, ℕ, ◌≢◌, List, map, length, get_or, refl, sym, ap, ap₂, ◌∙◌, zero-add, add-one, arith, rules, get_or-set_other}
+use Rattle.std.proofs.Common.{◌≡◌, bit_xor, ℕ, ◌≢◌, List, map, length, get_or, refl, sym, ap, ap₂, ◌∙◌, zero-add, add-one, arith, rules}
+use Rattle.std.proofs.Common.{get_or-set_other}
 use Rattle.ranges.specs.Range.{range}
 use Rattle.ranges.proofs.Filled.{filled_none, filled_more, filled_all}
 use Rattle.digits.proofs.Two.{one_lt_two, plus-two}
