@@ -31,29 +31,32 @@ module _ (columns : List ℕ) (small : Below (2 ^ 32) columns) (m : ℕ) where
 
   -- the pivot is 0: its index is in the kernel
   module _ {n c : ℕ} {asked : ℕ → ℕ} {rest moved asked-rest found : List ℕ} (now : Pending L m n asked c rest moved asked-rest found)
-      (inside : c < m) (word index : ℕ) (word_is : word ≡ get_or rest c 0) (index_is : index ≡ get_or moved c 0) (none : word ≡ 0) where
-    stops : eliminate 2 L choice m 0 [] ≡ in_kernel index
-    stops = pending_kernel additive now inside (sym word_is ∙ none) ∙ ap in_kernel (sym index_is)
+      (inside : c < m) (none : get_or rest c 0 ≡ 0) where
+    stops : eliminate 2 L choice m 0 [] ≡ in_kernel (get_or moved c 0)
+    stops = pending_kernel additive now inside none
 
-    pub positive : 0 < index
-    positive = (sound (in_kernel index) stops).1.positive
+    pub positive : 0 < get_or moved c 0
+    positive = (sound (in_kernel (get_or moved c 0)) stops).1.positive
 
-    kernel_found : KernelIs columns m index
-    kernel_found = record { least = λ n. sound (in_kernel index) stops; none = λ z. let some = positive in absurd (omega arith) }
+    kernel_found : KernelIs columns m (get_or moved c 0)
+    kernel_found = record {
+      least = λ n. sound (in_kernel (get_or moved c 0)) stops;
+      none = λ z. let some = positive in absurd (omega arith);
+    }
 
-    pub eliminated_kernel : (word : ℕ) → Eliminates columns m word index 0
-    eliminated_kernel word = record {
+    pub eliminated_kernel : (word kernel : ℕ) → kernel ≡ get_or moved c 0 → Eliminates columns m word kernel 0
+    eliminated_kernel word kernel e = rw e (record {
       kernel_is = kernel_found;
       no_index = λ n. refl;
       found = λ z. let some = positive in absurd (omega arith);
-    }
+    })
 
-    pub inverted_kernel : Inverts columns m index (replicate index_bits 0)
-    inverted_kernel = record {
+    pub inverted_kernel : (kernel : ℕ) → kernel ≡ get_or moved c 0 → Inverts columns m kernel (replicate index_bits 0)
+    inverted_kernel kernel e = rw e (record {
       kernel_is = kernel_found;
       no_inverse = λ n. refl;
       back = λ z. let some = positive in absurd (omega arith);
-    }
+    })
 
   -- a basis inverts the product
   module _ (fs : List BasisEntry) (whole : eliminate 2 L choice m 0 [] ≡ basis fs) where

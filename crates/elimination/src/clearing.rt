@@ -1,8 +1,9 @@
 // Words, each beside its index, cleared at the lowest set bit of one of them.
-ghost use Rattle.std.specs.Prelude.{◌≡◌, ◌≢◌, ◌≤◌, ◌<◌, length, get_or};
+ghost use Rattle.std.specs.Prelude.{◌≡◌, ◌≢◌, ◌≤◌, ◌<◌, length, get_or, MatchResult};
 ghost use Rattle.word.specs.Index.{index_bits};
 ghost use Rattle.elimination.specs.Basis.{added, Clears};
 
+use crate::kernel::Dependent;
 use word::Columns;
 
 // A word beside an index. Of a column, the word is the product with the index; of a word asked for, it is what that product leaves of it.
@@ -55,16 +56,20 @@ pub(crate) struct Entries {
 }
 
 impl Entries {
-    // The entry at t.
-    pub(crate) fn at(&self, t: usize) -> Entry
-        requires { t < index_bits }
-        ensures word { result.word ≡ get_or self.now.words t 0 }
-        ensures index { result.index ≡ get_or self.now.indexes t 0 }
+    // The entry at c as the next pivot. A word of 0 is made of the columns before it, and then its index is in the kernel.
+    pub(crate) fn pivot(&self, c: usize) -> Result<Entry, Dependent>
+        requires inside { c < index_bits }
+        requires some { get_or self.now.words c 0 ≡ 0 → 0 < get_or self.now.indexes c 0 }
+        ensures { MatchResult result
+            (λ p. (p.word ≢ 0) × (p.word ≡ get_or self.now.words c 0) × (p.index ≡ get_or self.now.indexes c 0))
+            (λ d. (get_or self.now.words c 0 ≡ 0) × (d.kernel ≡ get_or self.now.indexes c 0)) }
     {
-        Entry {
-            word: self.words[t],
-            index: self.indexes[t],
+        let word = self.words[c];
+        let index = self.indexes[c];
+        if word == 0 {
+            return Err(Dependent { kernel: index });
         }
+        Ok(Entry { word, index })
     }
 
     // Clears the entries from `from` up to `to`.
@@ -74,6 +79,10 @@ impl Entries {
         ensures { Clears pivot.word pivot.index from to
             self.old.words self.old.indexes self.new.words self.new.indexes }
     {
-        clear_all(&mut self.words[from..to], &mut self.indexes[from..to], pivot);
+        clear_all(
+            &mut self.words[from..to],
+            &mut self.indexes[from..to],
+            pivot,
+        );
     }
 }

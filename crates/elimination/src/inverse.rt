@@ -22,12 +22,7 @@ fn solve_units(columns: Columns, n: usize) -> Result<Columns, Dependent>
         indexes: [0; COLUMNS],
     };
     for c in 0..n {
-        let pivot = entries.at(c);
-        if pivot.word == 0 {
-            return Err(Dependent {
-                kernel: pivot.index,
-            });
-        }
+        let pivot = entries.pivot(c)?;
         entries.clear(c + 1, n, pivot);
         units.clear(0, n, pivot);
     }

@@ -8,8 +8,7 @@ use crate::columns::unit_words;
 use crate::kernel::Dependent;
 use word::{Columns, INDEX_BITS, Index};
 
-// Takes the first n columns one after the other as pivots. A column that is 0 by then is made of those before it, and its index is in the
-// kernel.
+// Takes the first n columns one after the other as pivots, and clears the word asked for with them.
 fn solve(columns: Columns, n: usize, asked: u32) -> Result<Index, Dependent>
     requires { n ≤ index_bits }
     ensures { Eliminates columns n asked (kernel_of result) (index_of result) }
@@ -23,12 +22,7 @@ fn solve(columns: Columns, n: usize, asked: u32) -> Result<Index, Dependent>
         index: 0,
     };
     for c in 0..n {
-        let pivot = entries.at(c);
-        if pivot.word == 0 {
-            return Err(Dependent {
-                kernel: pivot.index,
-            });
-        }
+        let pivot = entries.pivot(c)?;
         entries.clear(c + 1, n, pivot);
         wanted = wanted.cleared(pivot);
     }

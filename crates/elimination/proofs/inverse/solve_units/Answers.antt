@@ -1,6 +1,7 @@
 -- `solve_units`: the pivots are the model's.
-use Rattle.std.proofs.Common.{refl, sym, ◌^◌, arith, rules, Fits, get_or, w32}
+use Rattle.std.proofs.Common.{sym, ◌^◌, arith, rules, Fits, get_or, w32}
 use Rattle.std.proofs.Math.ListN.{get_or-replicate}
+use Rattle.std.proofs.lemmas.Result.{err_from_is_err_and}
 use Rattle.ranges.specs.Below.{Below}
 use Rattle.ranges.proofs.Below.{below_of}
 use Rattle.digits.proofs.Two.{one_lt_two}
@@ -21,24 +22,21 @@ loop-c-init c =
       asked_for = λ t h. (c.unit_words-2.ensures.each t (omega arith), get_or-replicate 32 t 0 0 (omega arith));
     })
 
-pub invariant_of-result : goal.invariant_of-result
-invariant_of-result c =
-    let p = c.at-pivot in record {
-      positive = positive c.args.columns (words (goal.at.invariant_of-result c).Start) c.args.n c.loop-c.invariant (omega arith)
-          p.result.word p.result.index p.ensures.word p.ensures.index c.if-pivot-eq0.true;
-    }
+pub pivot-requires-clause-some : goal.pivot-requires-clause-some
+pivot-requires-clause-some c =
+    positive c.args.columns (words (goal.at.pivot-requires-clause-some c).Start) c.args.n c.loop-c.invariant (omega arith)
 
-pub returns-then-pivot-eq0 : goal.returns-then-pivot-eq0
-returns-then-pivot-eq0 c =
-    let p = c.at-pivot in
-    inverted_kernel c.args.columns (words (goal.at.returns-then-pivot-eq0 c).Start) c.args.n c.loop-c.invariant (omega arith)
-    p.result.word p.result.index p.ensures.word p.ensures.index c.if-pivot-eq0.true
+pub returns-in_err-pivot : goal.returns-in_err-pivot
+returns-in_err-pivot c =
+    let p = err_from_is_err_and c.from_residual.result c.from_residual.ensures.1 in
+    rw (p.1, p.2) (inverted_kernel c.args.columns (words (goal.at.returns-in_err-pivot c).Start) c.args.n c.loop-c.invariant
+    (omega arith) c.in_err-pivot.ensures.0 _ c.in_err-pivot.ensures.1)
 
 pub loop-c-preserved : goal.loop-c-preserved
 loop-c-preserved c =
-    let p = c.at-pivot in
-    pending_more (product-additive one_lt_two _) c.loop-c.invariant (omega arith) _ _ _ _ p.result.word p.result.index
-    p.ensures.word p.ensures.index c.if-pivot-eq0.false c.clear.ensures c.clear-in-loop-c.ensures (omega arith)
+    let p = c.in_ok-pivot in
+    pending_more (product-additive one_lt_two _) c.loop-c.invariant (omega arith) _ _ _ _ p.pivot.word p.pivot.index
+    p.ensures.1 p.ensures.2 p.ensures.0 c.clear.ensures c.clear-in-loop-c.ensures (omega arith)
 
 pub returns : goal.returns
 returns c = inverted c.args.columns (words (goal.at.returns c).Start) c.args.n c.loop-c.invariant (omega arith)

@@ -1,5 +1,6 @@
 -- `solve`: the pivots are the model's.
 use Rattle.std.proofs.Common.{sym, ◌^◌, arith, rules, Fits, get_or, w32}
+use Rattle.std.proofs.lemmas.Result.{err_from_is_err_and}
 use Rattle.ranges.specs.Below.{Below}
 use Rattle.ranges.proofs.Below.{below_of}
 use Rattle.digits.proofs.Two.{one_lt_two}
@@ -16,24 +17,21 @@ words s = below_of (2 ^ 32) s.args.columns (λ t. let f : Fits w32 (get_or s.arg
 pub loop-c-init : goal.loop-c-init
 loop-c-init c = pending_none (begun_one _ (λ d h. (sym (product-pow one_lt_two _ d), c.unit_words.ensures.each d (omega arith))))
 
-pub invariant_of-result : goal.invariant_of-result
-invariant_of-result c =
-    let p = c.at-pivot in record {
-      positive = positive c.args.columns (words (goal.at.invariant_of-result c).Start) c.args.n c.loop-c.invariant (omega arith)
-          p.result.word p.result.index p.ensures.word p.ensures.index c.if-pivot-eq0.true;
-    }
+pub pivot-requires-clause-some : goal.pivot-requires-clause-some
+pivot-requires-clause-some c =
+    positive c.args.columns (words (goal.at.pivot-requires-clause-some c).Start) c.args.n c.loop-c.invariant (omega arith)
 
-pub returns-then-pivot-eq0 : goal.returns-then-pivot-eq0
-returns-then-pivot-eq0 c =
-    let p = c.at-pivot in
-    eliminated_kernel c.args.columns (words (goal.at.returns-then-pivot-eq0 c).Start) c.args.n c.loop-c.invariant (omega arith)
-    p.result.word p.result.index p.ensures.word p.ensures.index c.if-pivot-eq0.true c.args.asked
+pub returns-in_err-pivot : goal.returns-in_err-pivot
+returns-in_err-pivot c =
+    let p = err_from_is_err_and c.from_residual.result c.from_residual.ensures.1 in
+    rw (p.1, p.2) (eliminated_kernel c.args.columns (words (goal.at.returns-in_err-pivot c).Start) c.args.n c.loop-c.invariant
+    (omega arith) c.in_err-pivot.ensures.0 c.args.asked _ c.in_err-pivot.ensures.1)
 
 pub loop-c-preserved : goal.loop-c-preserved
 loop-c-preserved c =
-    let p = c.at-pivot in
-    pending_more (product-additive one_lt_two _) c.loop-c.invariant (omega arith) _ _ _ _ p.result.word p.result.index
-    p.ensures.word p.ensures.index c.if-pivot-eq0.false c.clear.ensures
+    let p = c.in_ok-pivot in
+    pending_more (product-additive one_lt_two _) c.loop-c.invariant (omega arith) _ _ _ _ p.pivot.word p.pivot.index
+    p.ensures.1 p.ensures.2 p.ensures.0 c.clear.ensures
     (clears_one c.cleared-wanted.ensures.word c.cleared-wanted.ensures.index) (omega arith)
 
 pub returns : goal.returns
