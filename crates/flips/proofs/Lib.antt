@@ -4,5 +4,4 @@ pub mod Turn
 pub mod Tree
 pub mod Scrambled
 pub mod Loading
-pub mod Judging
 pub mod Theorem

@@ -19,7 +19,7 @@ use Rattle.flips.specs.Theorem.{Flipping, WordScrambling, FlipsJudged, Theorems}
 use Rattle.flips.proofs.FlipBits.{flip_bit_lt, at, bit, deeper, flipped_lt, flipped-lawful, flipped-undone}
 use Rattle.flips.proofs.None.{leaves, none-of-zeros, zeros-of-none}
 use Rattle.flips.proofs.Scrambled.{scrambled-lawful, scrambled-undone, masked}
-use Rattle.flips.proofs.Loading.{refuses-x, refuses-y, refuses_bit_x, refuses_bit_y, accepts}
+use Rattle.flips.proofs.Loading.{refuses_x, refuses_y, refuses_bit_x, refuses_bit_y, accepts}
 
 flipping : (flips : List ℕ) → Flipping flips
 flipping flips = record {
@@ -56,15 +56,15 @@ module _ (x y : List ℕ) where
   Fine = (length x ≡ 32) × (length y ≡ 32) × (flip_bit x 255 ≡ 0) × (flip_bit y 255 ≡ 0)
 
   short-refused : Short → outcome ≡ refused 17 []
-  short-refused (inl ne) = refuses-x x y ne
-  short-refused (inr ne) = refuses-y x y ne
+  short-refused (inl ne) = refuses_x x y (accepted tt) ne
+  short-refused (inr ne) = refuses_y x y (accepted tt) ne
 
   set-refused : Set → outcome ≡ refused 18 []
-  set-refused (ex, ey, inl e) = refuses_bit_x x y ex ey e
-  set-refused (ex, ey, inr e) = refuses_bit_y x y ex ey e
+  set-refused (ex, ey, inl e) = refuses_bit_x x y (accepted tt) ex ey e
+  set-refused (ex, ey, inr e) = refuses_bit_y x y (accepted tt) ex ey e
 
   fine_accepted : Fine → outcome ≡ accepted tt
-  fine_accepted (ex, ey, e, f) = accepts x y ex ey e f
+  fine_accepted (ex, ey, e, f) = accepts x y (accepted tt) ex ey e f
 
   some : Short ⊎ (Set ⊎ Fine)
   some = lengths (eq_or_ne (length x) 32) (eq_or_ne (length y) 32)
@@ -110,7 +110,7 @@ theorems = record {
   flipping = flipping;
   scrambled = scrambled;
   judged = judged;
-  none_accepted = let none = none-of-zeros 32 in accepts no_flips.x no_flips.y refl refl (none 255) (none 255);
+  none_accepted = let none = none-of-zeros 32 in accepts no_flips.x no_flips.y (accepted tt) refl refl (none 255) (none 255);
   none_set = (none-of-zeros 32, none-of-zeros 32);
   none_only = λ flips long bytes none. zeros-of-none flips 32 long bytes none;
 }

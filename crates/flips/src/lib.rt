@@ -8,5 +8,5 @@ mod sets;
 mod words;
 
 pub use buffers::scramble_all;
-pub use sets::{AxisFlips, Flips, Loaded};
+pub use sets::{AxisFlips, Flips};
 pub use words::{masks, none_set, scramble, unscramble};

@@ -1,10 +1,10 @@
 // The flips of two axes by value, taken from bytes.
-ghost use Rattle.std.specs.Prelude.{◌≡◌, ◌↔◌, true, length};
-ghost use Rattle.refusal.specs.Refusal.{of_judgement, of_refusal};
+ghost use Rattle.std.specs.Prelude.{◌≡◌, ◌↔◌, true};
+ghost use Rattle.refusal.specs.Refusal.{of_result};
 ghost use Rattle.flips.specs.Flips.{NoneSet};
-ghost use Rattle.flips.specs.Load.{flips_of, flip_bytes, flips_outcome, no_flips, flips_loaded};
+ghost use Rattle.flips.specs.Load.{flips_of, no_flips, flips_load_outcome};
 
-use refusal::{Judgement, Refusal};
+use refusal::Refusal;
 
 // The number of bytes of an axis's flips.
 const FLIP_BYTES: usize = 32;
@@ -17,13 +17,6 @@ pub type AxisFlips = [u8; FLIP_BYTES];
 pub struct Flips {
     pub x: AxisFlips,
     pub y: AxisFlips,
-}
-
-// The answer stands beside the flips, since an enum holds no array. Of refused ones no bit is set.
-#[derive(Clone, Copy)]
-pub struct Loaded {
-    pub answer: Judgement,
-    pub flips: Flips,
 }
 
 // The place of the byte that holds flip bit 255, and the least byte in which that bit is set.
@@ -46,62 +39,19 @@ impl Flips {
     pub fn none_set(self) -> bool
         ensures { (result ≡ true) ↔ (NoneSet self.x × NoneSet self.y) }
     {
-        let x = self.x;
-        let y = self.y;
-        if crate::none_set(x) {
-            return crate::none_set(y);
-        }
-        false
+        crate::none_set(self.x) && crate::none_set(self.y)
     }
 
     // The flips that the bytes of two axes hold.
-    pub fn load(x: &[u8], y: &[u8]) -> Loaded
-        ensures answer { of_judgement result.answer ≡ flips_outcome (flips_of x.now y.now) }
-        ensures flips { result.flips ≡ flips_loaded (flips_of x.now y.now) }
+    #[tactic(auto, using(crate::proofs::Loading::refuses_x, crate::proofs::Loading::refuses_y, crate::proofs::Loading::refuses_byte_x, crate::proofs::Loading::refuses_byte_y, crate::proofs::Loading::accepts_bytes))]
+    pub fn load(x: &[u8], y: &[u8]) -> Result<Flips, Refusal>
+        ensures { of_result (λ f. f) result ≡ flips_load_outcome (flips_of x.now y.now) }
     {
-        if x.len() != FLIP_BYTES {
-            return refused(Refusal::FlipBytes);
+        let own_x = AxisFlips::try_from(x).map_err(|_| Refusal::FlipBytes)?;
+        let own_y = AxisFlips::try_from(y).map_err(|_| Refusal::FlipBytes)?;
+        if own_x[LAST_BYTE] >= UNUSED_SET || own_y[LAST_BYTE] >= UNUSED_SET {
+            return Err(Refusal::FlipBit);
         }
-        if y.len() != FLIP_BYTES {
-            return refused(Refusal::FlipBytes);
-        }
-        if x[LAST_BYTE] >= UNUSED_SET {
-            return refused(Refusal::FlipBit);
-        }
-        if y[LAST_BYTE] >= UNUSED_SET {
-            return refused(Refusal::FlipBit);
-        }
-        let own_x = copied(x);
-        let own_y = copied(y);
-        Loaded {
-            answer: Judgement::Accepted,
-            flips: Flips { x: own_x, y: own_y },
-        }
+        Ok(Flips { x: own_x, y: own_y })
     }
-}
-
-// A refusal, with flips of which no bit is set.
-fn refused(why: Refusal) -> Loaded
-    ensures answer { of_judgement result.answer ≡ of_refusal why }
-    ensures flips { result.flips ≡ no_flips }
-{
-    let flips = Flips::none();
-    Loaded {
-        answer: Judgement::Refused(why),
-        flips,
-    }
-}
-
-// A copy of the bytes of an axis.
-fn copied(bytes: &[u8]) -> AxisFlips
-    requires { length bytes.now ≡ flip_bytes }
-    ensures { result ≡ bytes.now }
-{
-    let mut own = [0u8; FLIP_BYTES];
-    let mut i = 0;
-    while i < FLIP_BYTES {
-        own[i] = bytes[i];
-        i += 1;
-    }
-    own
 }

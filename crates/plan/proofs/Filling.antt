@@ -4,6 +4,7 @@ use mathlib.Core.Bool.{true, false, not}
 use mathlib.Core.Logic.{◌≢◌}
 use mathlib.Core.List.{List, [], ◌∷◌, map}
 use Prim.Native.Nat.{ℕ, ◌^◌, ◌<◌}
+use Rattle.std.specs.Prelude.{Result, Ok, Err}
 use borrow.Author.Tests.{eq-eqb, ne_eqb}
 use lib.ListN.{length}
 use Rattle.ranges.specs.Range.{range}
@@ -14,19 +15,20 @@ use Rattle.net.specs.Sequence.{Sequence}
 use Rattle.net.specs.Scrambling.{coordinate}
 use Rattle.net.proofs.Product.{product_lt}
 use Rattle.refusal.specs.Outcome.{Outcome, accepted, refused, first}
-use Rattle.refusal.specs.Refusal.{of_refusal, of_judgement}
+use Rattle.refusal.specs.Refusal.{of_refusal, of_result}
 use Rattle.refusal.specs.declared.Refusal.{Refusal}
-use Rattle.refusal.specs.declared.Judgement.{Judgement}
-use Rattle.refusal.specs.declared.Judgement.TheVariants as judgement
+use Rattle.refusal.proofs.Results.{stops, passes}
 use Rattle.refusal.proofs.First.{first-none, first-refuses, first_passes, first-append, granted-accepted, granted-refused}
 use Rattle.products.specs.Products.{product_added, product_masked}
 use Rattle.flips.specs.declared.sets.Flips.{Flips}
 use Rattle.flips.specs.Flips.{NoneSet}
 use Rattle.flips.specs.Scramble.{scramble_word, mask}
-use Rattle.flips.specs.Load.{flips_tests, flips_outcome}
-use Rattle.flips.proofs.Judging.{flips-stop, flips_pass}
+use Rattle.flips.specs.Load.{flips_tests}
 use Rattle.flips.proofs.Scrambled.{by_mask, shift-left}
+use Rattle.word.specs.Index.{goes_past}
 use Rattle.plan.specs.Range.{past_last}
+use Rattle.plan.specs.Pair.{scramble_load_outcome}
+use Rattle.plan.specs.declared.points.Scramble.{Scramble}
 use Rattle.plan.specs.Fill.{Buffers, lengths_differ, fill_outcome, filled}
 
 module _ (n : ℕ) (f : Flips) (start : ℕ) (xs ys : List ℕ) where
@@ -37,37 +39,39 @@ module _ (n : ℕ) (f : Flips) (start : ℕ) (xs ys : List ℕ) where
   flips-first : fill_outcome n f start xs ys ≡ first (flips_tests f) later
   flips-first = first-append (flips_tests f) (lengths_differ xs ys ∷ past_last n start (length xs) ∷ []) (accepted tt)
 
-  module _ {answer : Judgement} (is : of_judgement answer ≡ flips_outcome f) where
-    pub refused-flips : {why : Refusal} → answer ≡ judgement.Refused why → fill_outcome n f start xs ys ≡ of_refusal why
-    refused-flips e = flips-first ∙ sym (flips-stop f is e later)
+  -- where the flips are not refused, the other tests decide
+  past_flips : first (flips_tests f) later ≡ later → length xs ≡ length ys
+      → fill_outcome n f start xs ys ≡ first (past_last n start (length xs) ∷ []) (accepted tt)
+  past_flips passed e = flips-first ∙ passed ∙ first_passes (accepted tt) 8 _ (ap not (eq-eqb (length xs) (length ys) e))
 
-    module _ (fine : answer ≡ judgement.Accepted) where
-      past_flips : fill_outcome n f start xs ys ≡ later
-      past_flips = flips-first ∙ flips_pass f is fine later
+  -- what a refused fill leaves, and what another one writes
+  module _ (S : Sequence) {k : ℕ} {vs : List ℕ} where
+    pub leaves : refused k vs ≡ fill_outcome n f start xs ys → filled n f S start xs ys ≡ record { x = xs; y = ys }
+    leaves e = granted-refused _ _ (sym e)
 
-      pub refused_lengths : length xs ≢ length ys → fill_outcome n f start xs ys ≡ refused 8 []
-      refused_lengths ne = past_flips ∙ first-refuses (accepted tt) 8 _ (ap not (ne_eqb (length xs) (length ys) ne))
+  pub written : (S : Sequence) → accepted tt ≡ fill_outcome n f start xs ys
+      → filled n f S start xs ys ≡ record { x = map S.x (range start (length xs)); y = map S.y (range start (length ys)) }
+  written S e = granted-accepted _ _ (sym e)
 
-      pub refused-range : length xs ≡ length ys → (past_last n start (length xs)).holds ≡ true → fill_outcome n f start xs ys ≡ refused 9 []
-      refused-range e h =
-          past_flips ∙ first_passes (accepted tt) 8 _ (ap not (eq-eqb (length xs) (length ys) e)) ∙ first-refuses (accepted tt) 9 [] h
+-- by what loading the scramble has come to
+module _ (n : ℕ) (s : Scramble) (start : ℕ) (xs ys : List ℕ) (r : Result Scramble Refusal)
+    (is : of_result (λ t. t) r ≡ scramble_load_outcome s) where
+  pub fill_stops : (why : Refusal) → r ≡ Err why → of_refusal why ≡ fill_outcome n s.flips start xs ys
+  fill_stops why was = stops (λ t. t) (flips_tests s.flips) s r is why was (later n s.flips start xs ys) ∙ sym (flips-first n s.flips start xs ys)
 
-      pub accepts : length xs ≡ length ys → (past_last n start (length xs)).holds ≡ false → fill_outcome n f start xs ys ≡ accepted tt
-      accepts e h =
-          past_flips ∙ first_passes (accepted tt) 8 _ (ap not (eq-eqb (length xs) (length ys) e)) ∙ first_passes (accepted tt) 9 [] h
-          ∙ first-none (accepted tt)
+  module _ (t : Scramble) (was : r ≡ Ok t) where
+    passed : first (flips_tests s.flips) (later n s.flips start xs ys) ≡ later n s.flips start xs ys
+    passed = passes (λ t. t) (flips_tests s.flips) s r is t was _
 
-  module _ (S : Sequence) where
-    pub written : fill_outcome n f start xs ys ≡ accepted tt
-        → filled n f S start xs ys ≡ record { x = map S.x (range start (length xs)); y = map S.y (range start (length ys)) }
-    written e = granted-accepted _ _ e
+    pub refuses_lengths : length xs ≢ length ys → refused 8 [] ≡ fill_outcome n s.flips start xs ys
+    refuses_lengths ne =
+        sym (flips-first n s.flips start xs ys ∙ passed ∙ first-refuses (accepted tt) 8 _ (ap not (ne_eqb (length xs) (length ys) ne)))
 
-    -- the three promises of a return that refuses
-    pub leaves : {k : ℕ} {vs : List ℕ} → fill_outcome n f start xs ys ≡ refused k vs
-        → (refused k vs ≡ fill_outcome n f start xs ys) × ((xs ≡ (filled n f S start xs ys).x) × (ys ≡ (filled n f S start xs ys).y))
-    leaves e =
-        let kept : filled n f S start xs ys ≡ record { x = xs; y = ys } = granted-refused _ _ e in
-        (sym e, (sym (ap (λ (b : Buffers). b.x) kept), sym (ap (λ (b : Buffers). b.y) kept)))
+    pub refuses_range : length xs ≡ length ys → goes_past n start (length xs) ≡ true → refused 9 [] ≡ fill_outcome n s.flips start xs ys
+    refuses_range e h = sym (past_flips n s.flips start xs ys passed e ∙ first-refuses (accepted tt) 9 [] h)
+
+    pub accepts : length xs ≡ length ys → goes_past n start (length xs) ≡ false → accepted tt ≡ fill_outcome n s.flips start xs ys
+    accepts e h = sym (past_flips n s.flips start xs ys passed e ∙ first_passes (accepted tt) 9 [] h ∙ first-none (accepted tt))
 
 -- ---- one axis
 

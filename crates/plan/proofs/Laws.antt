@@ -9,16 +9,8 @@ use Rattle.digits.proofs.Two.{one_lt_two}
 use Rattle.net.specs.Generators.{Valid}
 use Rattle.net.specs.Sequence.{Sequence, point}
 use Rattle.net.specs.Run.{Visit, visit}
-use Rattle.refusal.specs.Outcome.{Outcome, accepted, refused, first, through, part_left}
-use Rattle.refusal.specs.Refusal.{of_judgement}
-use Rattle.refusal.specs.declared.Judgement.{Judgement}
-use Rattle.refusal.specs.declared.Judgement.TheVariants as judgement
+use Rattle.refusal.specs.Outcome.{Outcome, accepted, refused, through, part_left}
 use Rattle.word.specs.Matrices.{pair}
-use Rattle.flips.specs.declared.sets.Flips.{Flips}
-use Rattle.flips.specs.Load.{flips_tests, flips_outcome, flips_loaded}
-use Rattle.flips.proofs.Judging.{flips_pass, flips_are}
-use Rattle.plan.specs.declared.points.Shift.{Shift}
-use Rattle.plan.specs.declared.points.Scramble.{Scramble}
 
 -- a point by its coordinates
 pub both : {x y u v : ℕ} → x ≡ u → y ≡ v → ◌≡◌ {A = ℕ × ℕ} (x, y) (u, v)
@@ -34,18 +26,6 @@ tells S w i x y e = ap (λ (p : ℕ × ℕ). telling (record { index = i; x = p.
 -- columns that are words, as the code's are
 pub words_valid : (x y : List ℕ) → ((c : ℕ) → get_or x c 0 < 2 ^ 32) → ((c : ℕ) → get_or y c 0 < 2 ^ 32) → Valid (pair x y)
 words_valid x y hx hy = record { base = one_lt_two; X_fits = below_of (2 ^ 32) x hx; Y_fits = below_of (2 ^ 32) y hy }
-
--- ---- a call with a shift and the bytes of flips
-
-abbrev of_loaded : Shift → Flips → Scramble
-of_loaded shift g = record { shift = shift; flips = g }
-
-module _ (shift : Shift) (f : Flips) {answer : Judgement} (is : of_judgement answer ≡ flips_outcome f) where
-  -- it gives what is made of the flips that were loaded
-  pub gives : answer ≡ judgement.Accepted → {A : Type 0} (make : Scramble → A) {g : Flips} → g ≡ flips_loaded f → {a : A}
-      → a ≡ make (of_loaded shift g) → accepted a ≡ first (flips_tests f) (accepted (make (of_loaded shift f)))
-  gives e make held made =
-      ap accepted (made ∙ ap (λ (g : Flips). make (of_loaded shift g)) (flips_are f is e held)) ∙ sym (flips_pass f is e _)
 
 -- the two promises of a step that is refused, and of one that is not
 module _ {o : Outcome (Stepped Visit)} (w : Walk) where

@@ -36,7 +36,7 @@ pub filled-visits : (n : ℕ) (f : Flips) (S : Sequence) (start : ℕ) (xs ys : 
 filled-visits n f S start xs ys e =
     let passed = (all_pass (accepted tt) _ e).0.1.1.0 in
     let equal = eqb-true (length xs) (length ys) (not-false (eqb (length xs) (length ys)) passed) in
-    ap (held start) (written n f start xs ys S e)
+    ap (held start) (written n f start xs ys S (sym e))
     ∙ ap (λ (l : ℕ). paired start (map S.x (range start (length xs))) (map S.y (range start l))) (sym equal)
     ∙ paired_each S start (length xs)
 

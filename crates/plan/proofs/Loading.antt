@@ -1,5 +1,5 @@
 -- What loading answers and leaves. Assumes nothing.
-use mathlib.Core.Path.{◌≡◌, ap, ◌∙◌}
+use mathlib.Core.Path.{◌≡◌, sym, ap, ◌∙◌}
 use mathlib.Core.Bool.{not}
 use mathlib.Core.Logic.{◌≢◌}
 use mathlib.Core.List.{List, []}
@@ -8,7 +8,8 @@ use borrow.Author.Tests.{eq-eqb, ne_eqb}
 use lib.ListN.{length, take, drop, replicate}
 use Rattle.refusal.specs.Outcome.{accepted, refused}
 use Rattle.refusal.proofs.First.{first-none, first-refuses, first_passes, granted-accepted, granted-refused}
-use Rattle.plan.specs.Pair.{load_outcome, loaded}
+use Rattle.plan.specs.declared.pair.Plan.{Plan}
+use Rattle.plan.specs.Pair.{load_outcome, loaded, plan_load_outcome}
 
 module _ (words : List ℕ) where
   pub loading_refuses : length words ≢ 64 → load_outcome words ≡ refused 1 []
@@ -22,3 +23,12 @@ module _ (words : List ℕ) where
 
   pub loaded-accepted : length words ≡ 64 → loaded words ≡ record { x = take 32 words; y = drop 32 words }
   loaded-accepted e = granted-accepted _ _ (loading_accepts e)
+
+  -- the two returns of a call that loads
+  pub load_refuses : length words ≢ 64 → plan_load_outcome words ≡ refused 1 []
+  load_refuses ne = first-refuses (accepted (loaded words)) 1 [] (ap not (ne_eqb (length words) 64 ne))
+
+  pub load_gives : length words ≡ 64 → {P : Plan} → P ≡ record { x = take 32 words; y = drop 32 words } → accepted P ≡ plan_load_outcome words
+  load_gives e made =
+      ap accepted (made ∙ sym (loaded-accepted e))
+      ∙ sym (first_passes (accepted (loaded words)) 1 [] (ap not (eq-eqb (length words) 64 e)) ∙ first-none (accepted (loaded words)))

@@ -2,19 +2,11 @@
 use Rattle.std.specs.Prelude.{ℕ}
 use Rattle.net.specs.Sequence.{point}
 use Rattle.refusal.specs.Outcome.{Outcome, accepted, first}
-use Rattle.refusal.specs.Refusal.{of_refusal}
 use Rattle.flips.specs.Load.{flips_tests}
-use Rattle.plan.specs.Pair.{sequence, of_point}
+use Rattle.plan.specs.Pair.{sequence}
 use Rattle.plan.specs.declared.pair.Plan.{Plan}
 use Rattle.plan.specs.declared.points.Scramble.{Scramble}
-use Rattle.plan.specs.declared.calls.Pointed.{Pointed}
-use Rattle.plan.specs.declared.calls.Pointed.TheVariants as pointed
 
 -- refused under 17 or 18, in this order, or the point
 abbrev pub point_outcome : Plan → Scramble → ℕ → Outcome (ℕ × ℕ)
 point_outcome P s i = first (flips_tests s.flips) (accepted (point (sequence P s) i))
-
--- the code's answer
-abbrev pub of_pointed : Pointed → Outcome (ℕ × ℕ)
-of_pointed (pointed.At p) = accepted (of_point p)
-of_pointed (pointed.Refused r) = of_refusal r

@@ -7,10 +7,11 @@ use Rattle.refusal.specs.Outcome.{Outcome, accepted, Test, first, granted}
 use Rattle.word.specs.Index.{index_bits}
 use Rattle.word.specs.Matrices.{pair, standard_matrices}
 use Rattle.flips.specs.Scramble.{scramble_word, unscramble_word}
-use Rattle.flips.specs.Load.{flips_of, no_flips}
+use Rattle.flips.specs.Load.{flips_of, no_flips, flips_tests}
 use Rattle.plan.specs.declared.pair.Plan.{Plan}
 use Rattle.plan.specs.declared.points.Shift.{Shift}
 use Rattle.plan.specs.declared.points.Scramble.{Scramble}
+use Rattle.plan.specs.declared.points.LentScramble.{LentScramble}
 use Rattle.plan.specs.declared.points.Point.{Point}
 
 -- the generator matrices of a plan
@@ -25,10 +26,18 @@ scrambling s = record { x = scramble_word s.flips.x s.shift.x; y = scramble_word
 abbrev pub unscrambling : Scramble → Scrambling
 unscrambling s = record { x = unscramble_word s.flips.x s.shift.x; y = unscramble_word s.flips.y s.shift.y }
 
--- a shift with the bytes of flips, and one without flips
+-- a shift with the bytes of flips
 abbrev pub scramble_of : Shift → List ℕ → List ℕ → Scramble
 scramble_of s flips-x flips-y = record { shift = s; flips = flips_of flips-x flips-y }
 
+-- the one that the code is lent, and what loading it comes to
+abbrev pub scramble_lent : LentScramble → Scramble
+scramble_lent s = scramble_of s.shift s.flips_x.now s.flips_y.now
+
+abbrev pub scramble_load_outcome : Scramble → Outcome Scramble
+scramble_load_outcome s = first (flips_tests s.flips) (accepted s)
+
+-- a shift without flips
 abbrev pub only_shift : Shift → Scramble
 only_shift s = record { shift = s; flips = no_flips }
 
@@ -81,3 +90,7 @@ loaded words =
     granted (load_outcome words)
     (record { x = take index_bits words; y = drop index_bits words })
     (record { x = replicate index_bits 0; y = replicate index_bits 0 })
+
+-- and loading hands them out
+abbrev pub plan_load_outcome : List ℕ → Outcome Plan
+plan_load_outcome words = first (not_a_pair words ∷ []) (accepted (loaded words))

@@ -1,21 +1,17 @@
 -- What opening a walk and a step come to, and the code's walks, visits and steps as the definitions have them.
-use Rattle.std.specs.Prelude.{[], ◌∷◌, ℕ}
+use Rattle.std.specs.Prelude.{[], ◌∷◌, ℕ, Option, Some, None}
 use Rattle.ranges.specs.Walk.{Walk, Answer, visited, ended, Stepped, step}
 use Rattle.net.specs.Run.{Visit, visit}
 use Rattle.refusal.specs.Outcome.{Outcome, accepted, first}
-use Rattle.refusal.specs.Refusal.{of_refusal}
 use Rattle.word.specs.Index.{last_index}
 use Rattle.flips.specs.Load.{flips_tests}
 use Rattle.plan.specs.Range.{past_last}
 use Rattle.plan.specs.Pair.{sequence}
 use Rattle.plan.specs.declared.pair.Plan.{Plan}
 use Rattle.plan.specs.declared.points.Scramble.{Scramble}
+use Rattle.plan.specs.declared.points.Point.{Point}
 use Rattle.plan.specs.declared.walks.Walk.{Walk as WalkCode}
 use Rattle.plan.specs.declared.walks.Visit.{Visit as VisitCode}
-use Rattle.plan.specs.declared.walks.Step.{Step as StepCode}
-use Rattle.plan.specs.declared.walks.Step.TheVariants as step-code
-use Rattle.plan.specs.declared.walks.Opened.{Opened as OpenedCode}
-use Rattle.plan.specs.declared.walks.Opened.TheVariants as opened
 
 -- a walk over count visits from start on, or a refusal, where there are n indexes
 abbrev pub open_outcome : (n start count : ℕ) → Outcome Walk
@@ -29,14 +25,10 @@ step_outcome P s w = first (flips_tests s.flips) (accepted (step (visit (sequenc
 abbrev pub of_walk : WalkCode → Walk
 of_walk w = record { next = w.next; left = w.left }
 
-abbrev pub of_visit : VisitCode → Visit
-of_visit v = record { index = v.index; x = v.x; y = v.y }
+abbrev pub of_visit : VisitCode Point → Visit
+of_visit v = record { index = v.index; x = v.at.x; y = v.at.y }
 
-abbrev pub of_step : StepCode → Outcome (Answer Visit)
-of_step (step-code.Visited v) = accepted (visited (of_visit v))
-of_step step-code.Ended = accepted ended
-of_step (step-code.Refused r) = of_refusal r
-
-abbrev pub of_opened : OpenedCode → Outcome Walk
-of_opened (opened.Open w) = accepted (of_walk w)
-of_opened (opened.Refused r) = of_refusal r
+-- what a step gives, its visit read by f
+abbrev pub answer_of : {A B : Type 0} → (A → B) → Option A → Answer B
+answer_of f (Some v) = visited (f v)
+answer_of f None = ended

@@ -4,14 +4,13 @@ ghost use Rattle.ranges.specs.Range.{range};
 ghost use Rattle.net.specs.Scrambling.{coordinate};
 ghost use Rattle.refusal.specs.Refusal.{of_judgement};
 ghost use Rattle.word.specs.Index.{index_count};
-ghost use Rattle.flips.specs.Load.{flips_of};
 ghost use Rattle.flips.specs.Scramble.{scramble_word};
-ghost use Rattle.plan.specs.Pair.{sequence, scramble_of};
+ghost use Rattle.plan.specs.Pair.{sequence, scramble_lent};
 ghost use Rattle.plan.specs.Fill.{fill_outcome, filled};
 
-use crate::{Plan, Shift};
+use crate::{LentScramble, Plan, Scramble};
 use flips::{AxisFlips, Flips};
-use refusal::{Judgement, Refusal};
+use refusal::Refusal;
 use word::{Columns, Index};
 
 // Writes one coordinate of the indexes from start on. Without flips one word, the shift, is added to every product; with flips the word that is
@@ -38,67 +37,48 @@ fn fill_long_axis(columns: Columns, flips: AxisFlips, shift: u32, start: Index, 
 }
 
 // Writes both coordinates of the indexes from start on.
-fn fill_axes(plan: Plan, shift: Shift, flips: Flips, start: Index, xs: &mut [u32], ys: &mut [u32])
+fn fill_axes(plan: Plan, scramble: Scramble, start: Index, xs: &mut [u32], ys: &mut [u32])
     requires { (start + length xs.old ≤ index_count) × (start + length ys.old ≤ index_count) }
-    ensures first { xs.new ≡ map (coordinate 2 plan.x (scramble_word flips.x shift.x)) (range start (length xs.old)) }
-    ensures second { ys.new ≡ map (coordinate 2 plan.y (scramble_word flips.y shift.y)) (range start (length ys.old)) }
+    ensures first { xs.new ≡ map (coordinate 2 plan.x (scramble_word scramble.flips.x scramble.shift.x)) (range start (length xs.old)) }
+    ensures second { ys.new ≡ map (coordinate 2 plan.y (scramble_word scramble.flips.y scramble.shift.y)) (range start (length ys.old)) }
 {
-    let x = plan.x;
-    let y = plan.y;
-    let flips_x = flips.x;
-    let flips_y = flips.y;
+    let Scramble { shift, flips } = scramble;
     if long_under_flips(flips, xs.len()) {
-        fill_long_axis(x, flips_x, shift.x, start, xs);
-        fill_long_axis(y, flips_y, shift.y, start, ys);
-        return;
+        fill_long_axis(plan.x, flips.x, shift.x, start, xs);
+        fill_long_axis(plan.y, flips.y, shift.y, start, ys);
+    } else {
+        fill_axis(plan.x, flips.x, shift.x, start, xs);
+        fill_axis(plan.y, flips.y, shift.y, start, ys);
     }
-    fill_axis(x, flips_x, shift.x, start, xs);
-    fill_axis(y, flips_y, shift.y, start, ys);
 }
 
 // Whether a fill of n points takes tables. Either way it writes the same.
 fn long_under_flips(flips: Flips, n: usize) -> bool {
-    if flips.none_set() {
-        return false;
-    }
-    n >= products::LONG
+    !flips.none_set() && n >= products::LONG
 }
 
 // Writes the points of the indexes from start on, as many as the buffers have room for. A refused call writes nothing.
 pub fn fill(
     plan: Plan,
-    shift: Shift,
-    flips_x: &[u8],
-    flips_y: &[u8],
+    lent: LentScramble,
     start: Index,
     xs: &mut [u32],
     ys: &mut [u32],
-) -> Judgement
-    ensures answer { of_judgement result
-        ≡ fill_outcome index_count (flips_of flips_x.now flips_y.now) start xs.old ys.old }
+) -> Result<(), Refusal>
+    ensures answer { of_judgement result ≡ fill_outcome index_count (scramble_lent lent.entry).flips start xs.old ys.old }
     ensures first { xs.new
-        ≡ (filled index_count (flips_of flips_x.now flips_y.now)
-        (sequence plan (scramble_of shift flips_x.now flips_y.now)) start xs.old ys.old).x }
+        ≡ (filled index_count (scramble_lent lent.entry).flips (sequence plan (scramble_lent lent.entry)) start xs.old ys.old).x }
     ensures second { ys.new
-        ≡ (filled index_count (flips_of flips_x.now flips_y.now)
-        (sequence plan (scramble_of shift flips_x.now flips_y.now)) start xs.old ys.old).y }
+        ≡ (filled index_count (scramble_lent lent.entry).flips (sequence plan (scramble_lent lent.entry)) start xs.old ys.old).y }
 {
-    let loaded = Flips::load(flips_x, flips_y);
-    let judged = loaded.answer;
-    match judged {
-        Judgement::Refused(why) => {
-            return Judgement::Refused(why);
-        }
-        Judgement::Accepted => {}
-    }
+    let scramble = lent.load()?;
     let n = xs.len();
     if n != ys.len() {
-        return Judgement::Refused(Refusal::BufferLengths);
+        return Err(Refusal::BufferLengths);
     }
     if word::goes_past(start, n as u64) {
-        return Judgement::Refused(Refusal::IndexRange);
+        return Err(Refusal::IndexRange);
     }
-    let flips = loaded.flips;
-    fill_axes(plan, shift, flips, start, xs, ys);
-    Judgement::Accepted
+    fill_axes(plan, scramble, start, xs, ys);
+    Ok(())
 }

@@ -9,8 +9,7 @@ mod pair;
 mod points;
 mod walks;
 
-pub use calls::Pointed;
 pub use fills::fill;
-pub use pair::{Loaded, PAIR_WORDS, Plan};
-pub use points::{Point, Scramble, Shift};
-pub use walks::{Opened, Step, Stepped, Visit, Walk};
+pub use pair::{PAIR_WORDS, Plan};
+pub use points::{LentScramble, Point, Scramble, Shift};
+pub use walks::{Visit, Walk};

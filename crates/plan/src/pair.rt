@@ -2,11 +2,11 @@
 ghost use Rattle.std.specs.Prelude.{◌≡◌};
 ghost use Rattle.net.specs.Sequence.{point};
 ghost use Rattle.net.specs.Scrambling.{plain};
-ghost use Rattle.refusal.specs.Refusal.{of_judgement};
-ghost use Rattle.plan.specs.Pair.{generators, only_shift, sequence, standard_pair, unknown_level, load_outcome, loaded, of_point};
+ghost use Rattle.refusal.specs.Refusal.{of_result};
+ghost use Rattle.plan.specs.Pair.{generators, only_shift, sequence, standard_pair, unknown_level, plan_load_outcome, of_point};
 
 use crate::{Point, Scramble, Shift};
-use refusal::{Judgement, Refusal};
+use refusal::Refusal;
 use word::{COLUMNS, Columns, Index};
 
 // The number of words of a pair: the columns of X, then those of Y.
@@ -19,13 +19,6 @@ pub struct Plan {
     pub y: Columns,
 }
 
-// The answer stands beside the matrices, since an enum holds no array. Of a refused pair they are all zero, which no check passes.
-#[derive(Clone, Copy)]
-pub struct Loaded {
-    pub answer: Judgement,
-    pub plan: Plan,
-}
-
 impl Plan {
     // The largest level to which matrices can be checked: one for each row.
     pub const LARGEST_LEVEL: u32 = 32;
@@ -34,52 +27,39 @@ impl Plan {
     pub fn unknown_level(level: u32) -> bool
         ensures { result ≡ (unknown_level level).holds }
     {
-        if level < 1 {
-            return true;
-        }
-        level > Plan::LARGEST_LEVEL
+        level < 1 || level > Plan::LARGEST_LEVEL
     }
 
     // Identity and Pascal's triangle modulo 2.
     pub fn standard() -> Plan
         ensures { result ≡ standard_pair }
     {
-        let x = word::identity_columns();
-        let y = word::pascal_columns();
-        Plan { x, y }
+        Plan {
+            x: word::identity_columns(),
+            y: word::pascal_columns(),
+        }
     }
 
     // The matrices that 64 words hold, the columns of X first.
-    pub fn load(words: &[u32]) -> Loaded
-        ensures answer { of_judgement result.answer ≡ load_outcome words.now }
-        ensures plan { result.plan ≡ loaded words.now }
+    pub fn load(words: &[u32]) -> Result<Plan, Refusal>
+        ensures { of_result (λ P. P) result ≡ plan_load_outcome words.now }
     {
         if words.len() != PAIR_WORDS {
-            return Loaded {
-                answer: Judgement::Refused(Refusal::WordCount),
-                plan: Plan {
-                    x: [0; COLUMNS],
-                    y: [0; COLUMNS],
-                },
-            };
+            return Err(Refusal::WordCount);
         }
-        let x = word::columns(&words[..COLUMNS]);
-        let y = word::columns(&words[COLUMNS..]);
-        Loaded {
-            answer: Judgement::Accepted,
-            plan: Plan { x, y },
-        }
+        Ok(Plan {
+            x: word::columns(&words[..COLUMNS]),
+            y: word::columns(&words[COLUMNS..]),
+        })
     }
 
     // The point of an index: in each axis the product of the matrix with the index, and what follows it.
     pub fn scrambled_point(self, scramble: Scramble, index: Index) -> Point
         ensures { of_point result ≡ point (sequence self scramble) index }
     {
-        let x = self.x;
-        let y = self.y;
         scramble.scramble(Point {
-            x: word::product(x, index),
-            y: word::product(y, index),
+            x: word::product(self.x, index),
+            y: word::product(self.y, index),
         })
     }
 

@@ -1,9 +1,11 @@
 // Points, and what follows the products: the flips of each axis, and then its digital shift.
 ghost use Rattle.std.specs.Prelude.{◌≡◌};
 ghost use Rattle.net.specs.Scrambling.{scrambled_point};
-ghost use Rattle.plan.specs.Pair.{scrambling, only_shift, of_point};
+ghost use Rattle.refusal.specs.Refusal.{of_result};
+ghost use Rattle.plan.specs.Pair.{scrambling, only_shift, scramble_lent, scramble_load_outcome, of_point};
 
 use flips::Flips;
+use refusal::Refusal;
 
 // The two coordinates of a visit.
 #[derive(Clone, Copy)]
@@ -26,6 +28,28 @@ pub struct Scramble {
     pub flips: Flips,
 }
 
+// A scramble as a caller lends it: the shift, and the bytes of the flips of both axes, which are judged when it is loaded.
+#[derive(Clone, Copy)]
+pub struct LentScramble<'a> {
+    pub shift: Shift,
+    pub flips_x: &'a [u8],
+    pub flips_y: &'a [u8],
+}
+
+impl<'a> LentScramble<'a> {
+    // The scramble by value, or why its flips are refused.
+    #[tactic(auto, using(refusal::proofs::Results::stops, refusal::proofs::Results::passes, refusal::proofs::Results::gives))]
+    pub fn load(self) -> Result<Scramble, Refusal>
+        ensures { of_result (λ s. s) result ≡ scramble_load_outcome (scramble_lent self.entry) }
+    {
+        let flips = Flips::load(self.flips_x, self.flips_y)?;
+        Ok(Scramble {
+            shift: self.shift,
+            flips,
+        })
+    }
+}
+
 impl Shift {
     // The point of two products where nothing is flipped.
     pub fn add(self, products: Point) -> Point
@@ -43,24 +67,22 @@ impl Scramble {
     pub fn of_shift(shift: Shift) -> Scramble
         ensures { result ≡ only_shift shift }
     {
-        let flips = Flips::none();
-        Scramble { shift, flips }
+        Scramble {
+            shift,
+            flips: Flips::none(),
+        }
     }
 
     // The point of two products. Most plans have no flips, and then the shift alone is left.
     pub fn scramble(self, products: Point) -> Point
         ensures { of_point result ≡ scrambled_point (scrambling self) (of_point products) }
     {
-        let flips = self.flips;
-        let shift = self.shift;
-        if flips.none_set() {
-            return shift.add(products);
+        if self.flips.none_set() {
+            return self.shift.add(products);
         }
-        let flips_x = flips.x;
-        let flips_y = flips.y;
         Point {
-            x: flips::scramble(flips_x, shift.x, products.x),
-            y: flips::scramble(flips_y, shift.y, products.y),
+            x: flips::scramble(self.flips.x, self.shift.x, products.x),
+            y: flips::scramble(self.flips.y, self.shift.y, products.y),
         }
     }
 }

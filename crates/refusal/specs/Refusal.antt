@@ -1,10 +1,8 @@
--- The code's refusals: the number in 01's table and the values of each, and the outcome that a judgement stands for.
-use Rattle.std.specs.Prelude.{List, [], ◌∷◌, ℕ}
+-- The code's refusals: the number in 01's table and the values of each, and the outcome that a result stands for.
+use Rattle.std.specs.Prelude.{List, [], ◌∷◌, ℕ, Result, Ok, Err}
 use Rattle.refusal.specs.Outcome.{Outcome, accepted, refused}
 use Rattle.refusal.specs.declared.Refusal.{Refusal}
 use Rattle.refusal.specs.declared.Refusal.TheVariants as variant
-use Rattle.refusal.specs.declared.Judgement.{Judgement}
-use Rattle.refusal.specs.declared.Judgement.TheVariants as judgement
 
 -- the number in 01's refusal table; the limits stand at the tests
 abbrev pub number : Refusal → ℕ
@@ -52,7 +50,11 @@ values variant.FlipBit = []
 abbrev pub of_refusal : {A : Type 0} → Refusal → Outcome A
 of_refusal r = refused (number r) (values r)
 
+-- the outcome that a result stands for, its value read by f
+abbrev pub of_result : {A B : Type 0} → (A → B) → Result A Refusal → Outcome B
+of_result f (Ok a) = accepted (f a)
+of_result f (Err r) = of_refusal r
+
 -- the outcome of a call that hands out nothing else
-abbrev pub of_judgement : Judgement → Outcome Unit
-of_judgement judgement.Accepted = accepted tt
-of_judgement (judgement.Refused r) = of_refusal r
+abbrev pub of_judgement : Result Unit Refusal → Outcome Unit
+of_judgement = of_result (λ u. u)

@@ -1,11 +1,11 @@
-// The refusals of document 01's table, and the answer of a call that hands out nothing else.
+// The refusals of document 01's table: the error of every call that may refuse.
 #![tactic(auto)]
 
 ghost use Rattle.std.specs.Prelude.{◌≡◌};
 ghost use Rattle.refusal.specs.Refusal.{number};
 
-// Why a call refuses, with 01's numbers.
-#[derive(Clone, Copy)]
+// Why a call refuses, with 01's numbers. A call that hands out nothing else answers `Result<(), Refusal>`.
+#[derive(Clone, Copy, Debug, PartialEq, Eq)]
 pub enum Refusal {
     // 1: the words are no pair.
     WordCount,
@@ -71,11 +71,4 @@ impl Refusal {
             Refusal::FlipBit => 18,
         }
     }
-}
-
-// Accepted, or why not.
-#[derive(Clone, Copy)]
-pub enum Judgement {
-    Accepted,
-    Refused(Refusal),
 }

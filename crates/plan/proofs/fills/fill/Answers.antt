@@ -1,38 +1,40 @@
--- `fill`: the tests in their order, and then both axes.
+-- `fill`: refused as the tests are, in their order, and else filled.
 use mathlib.Core.Path.{◌≡◌, sym, ap, ◌∙◌}
 use mathlib.Core.Bool.{false}
 use mathlib.Core.List.{List, map}
 use Prim.Native.Nat.{ℕ, ◌+◌, ◌≤◌}
 use native.Mathlib.Omega.{arith}
+use borrow.Author.Rules.{rules}
 use borrow.Author.Tests.{ltb-false}
 use lib.ListN.{length}
+use Rattle.std.specs.Prelude.{Err}
 use Rattle.ranges.specs.Range.{range}
-use Rattle.net.specs.Sequence.{Sequence}
-use Rattle.net.specs.Scrambling.{coordinate}
+use Rattle.refusal.specs.Outcome.{Outcome, refused}
+use Rattle.refusal.specs.Refusal.{of_judgement}
+use Rattle.refusal.proofs.Results.{gives}
+use Rattle.flips.specs.Load.{flips_tests}
 use Rattle.word.specs.Index.{index_count, goes_past}
-use Rattle.flips.specs.declared.sets.Flips.{Flips}
-use Rattle.flips.specs.Scramble.{scramble_word}
-use Rattle.flips.specs.Load.{flips_of}
-use Rattle.flips.proofs.Judging.{flips_are}
-use Rattle.plan.specs.Pair.{sequence, scramble_of}
-use Rattle.plan.specs.Fill.{Buffers}
-use Rattle.plan.proofs.Filling.{refused-flips, refused_lengths, refused-range, accepts, written, leaves}
+use Rattle.plan.specs.declared.points.Scramble.{Scramble}
+use Rattle.plan.specs.Pair.{scramble_lent, sequence}
+use Rattle.plan.specs.Fill.{Buffers, filled, fill_outcome}
+use Rattle.plan.proofs.Filling.{fill_stops, refuses_lengths, refuses_range, accepts, leaves, written}
 use Rattle.plan.proofs.fills.fill.Goals as goal
-use Rattle.plan.proofs.fills.fill.Goals.{Else-goes_past, In-Accepted, Start}
+use Rattle.plan.proofs.fills.fill.Goals.{Start, Else-goes_past}
 
--- the bytes lent for flips, and the points under them
-abbrev lent : goal.Start → Flips
-lent s = flips_of s.args.flips_x.now s.args.flips_y.now
+-- what the call comes to, and the buffers that it leaves
+abbrev outcome : goal.Start → Outcome Unit
+outcome s = let a = s.args in fill_outcome index_count (scramble_lent a.lent).flips a.start a.xs.now a.ys.now
 
-abbrev S : goal.Start → Sequence
-S s = let a = s.args in sequence a.plan (scramble_of a.shift a.flips_x.now a.flips_y.now)
+abbrev buffers : goal.Start → Buffers
+buffers s = let a = s.args in
+    filled index_count (scramble_lent a.lent).flips (sequence a.plan (scramble_lent a.lent)) a.start a.xs.now a.ys.now
 
--- n coordinates of one axis
-abbrev axis : (C : List ℕ) (s start n : ℕ) → List ℕ → List ℕ
-axis C s start n flips = map (coordinate 2 C (scramble_word flips s)) (range start n)
-
-are : (d : goal.In-Accepted) → d.load-loaded.result.flips ≡ (flips_of d.args.flips_x.now d.args.flips_y.now)
-are d = flips_are ((flips_of d.args.flips_x.now d.args.flips_y.now)) d.load-loaded.ensures.answer d.in-Accepted.is d.load-loaded.ensures.flips
+-- a refused fill leaves both as they were
+kept : (s : goal.Start) {k : ℕ} {vs : List ℕ} → refused k vs ≡ outcome s → (s.args.xs.now ≡ (buffers s).x) × (s.args.ys.now ≡ (buffers s).y)
+kept s e =
+    let a = s.args in
+    let is = leaves index_count (scramble_lent a.lent).flips a.start a.xs.now a.ys.now (sequence a.plan (scramble_lent a.lent)) e in
+    (sym (ap (λ (b : Buffers). b.x) is), sym (ap (λ (b : Buffers). b.y) is))
 
 -- past all tests
 within : (c : goal.Else-goes_past) → let a = c.args in goes_past index_count a.start (length a.xs.now) ≡ false
@@ -41,45 +43,48 @@ within c = sym c.goes_past.ensures ∙ c.if-goes_past.false
 room : (c : goal.Else-goes_past) → let a = c.args in a.start + length a.xs.now ≤ index_count
 room c = let a = c.args in ltb-false index_count (a.start + length a.xs.now) (within c)
 
-pub returns-in-Refused : goal.returns-in-Refused
-returns-in-Refused c =
+pub returns-in_err-scramble : goal.returns-in_err-scramble
+returns-in_err-scramble c =
     let a = c.args in
-    let both = leaves index_count (lent (goal.at.returns-in-Refused c).Start) a.start a.xs.now a.ys.now (S (goal.at.returns-in-Refused c).Start)
-    (refused-flips index_count (lent (goal.at.returns-in-Refused c).Start) a.start a.xs.now a.ys.now c.load-loaded.ensures.answer
-    c.in-Refused.is) in record { answer = both.0; first = both.1.0; second = both.1.1 }
+    let why = c.in_err-scramble.field-0.0 in
+    let back : c.from_residual.result ≡ Err why = search rules in
+    let stop = fill_stops index_count (scramble_lent a.lent) a.start a.xs.now a.ys.now c.load.result c.load.ensures why c.in_err-scramble.was in
+    let both = kept (goal.at.returns-in_err-scramble c).Start stop in
+    record { answer = ap of_judgement back ∙ stop; first = both.0; second = both.1 }
 
 pub returns-then-n-ys : goal.returns-then-n-ys
 returns-then-n-ys c =
     let a = c.args in
-    let both = leaves index_count (lent (goal.at.returns-then-n-ys c).Start) a.start a.xs.now a.ys.now (S (goal.at.returns-then-n-ys c).Start)
-    (refused_lengths index_count (lent (goal.at.returns-then-n-ys c).Start) a.start a.xs.now a.ys.now c.load-loaded.ensures.answer c.in-Accepted.is
-    c.if-n-ys.true) in record { answer = both.0; first = both.1.0; second = both.1.1 }
+    let stop = refuses_lengths index_count (scramble_lent a.lent) a.start a.xs.now a.ys.now c.load.result c.load.ensures
+    c.in_ok-scramble.scramble c.in_ok-scramble.was c.if-n-ys.true in
+    let both = kept (goal.at.returns-then-n-ys c).Start stop in
+    record { answer = stop; first = both.0; second = both.1 }
 
 pub returns-then-goes_past : goal.returns-then-goes_past
 returns-then-goes_past c =
     let a = c.args in
-    let both = leaves index_count (lent (goal.at.returns-then-goes_past c).Start) a.start a.xs.now a.ys.now (S
-    (goal.at.returns-then-goes_past c).Start)
-    (refused-range index_count (lent (goal.at.returns-then-goes_past c).Start) a.start a.xs.now a.ys.now c.load-loaded.ensures.answer c.in-Accepted.is
-    c.if-n-ys.false (sym c.goes_past.ensures ∙ c.if-goes_past.true)) in record { answer = both.0; first = both.1.0; second = both.1.1 }
+    let stop = refuses_range index_count (scramble_lent a.lent) a.start a.xs.now a.ys.now c.load.result c.load.ensures
+    c.in_ok-scramble.scramble c.in_ok-scramble.was c.if-n-ys.false (sym c.goes_past.ensures ∙ c.if-goes_past.true) in
+    let both = kept (goal.at.returns-then-goes_past c).Start stop in
+    record { answer = stop; first = both.0; second = both.1 }
 
 pub fill_axes-requires : goal.fill_axes-requires
 fill_axes-requires c =
     let h = room (goal.at.fill_axes-requires c).Else-goes_past in
-    (h, omega arith)
+    (h, omega (arith, c.if-n-ys.false))
 
 pub returns : goal.returns
 returns c =
     let a = c.args in
-    let o = accepts index_count (lent (goal.at.returns c).Start) a.start a.xs.now a.ys.now c.load-loaded.ensures.answer c.in-Accepted.is
+    let s = scramble_lent a.lent in
+    let done = accepts index_count s a.start a.xs.now a.ys.now c.load.result c.load.ensures c.in_ok-scramble.scramble c.in_ok-scramble.was
     c.if-n-ys.false (within (goal.at.returns c).Else-goes_past) in
-    let w = written index_count (lent (goal.at.returns c).Start) a.start a.xs.now a.ys.now (S (goal.at.returns c).Start) o in
+    let is = written index_count s.flips a.start a.xs.now a.ys.now (sequence a.plan s) done in
+    let same : c.in_ok-scramble.scramble ≡ s = gives (λ t. t) (flips_tests s.flips) s c.load.result c.load.ensures _ c.in_ok-scramble.was in
     record {
-      answer = sym o;
-      first = c.fill_axes.ensures.first ∙ ap (axis a.plan.x a.shift.x a.start (length a.xs.now)) (ap (λ (g : Flips). g.x) (are
-          (goal.at.returns c).In-Accepted))
-          ∙ sym (ap (λ (b : Buffers). b.x) w);
-      second = c.fill_axes.ensures.second ∙ ap (axis a.plan.y a.shift.y a.start (length a.ys.now)) (ap (λ (g : Flips). g.y) (are
-          (goal.at.returns c).In-Accepted))
-          ∙ sym (ap (λ (b : Buffers). b.y) w);
+      answer = done;
+      first = c.fill_axes.ensures.first ∙ ap (λ (t : Scramble). map (sequence a.plan t).x (range a.start (length a.xs.now))) same
+          ∙ sym (ap (λ (b : Buffers). b.x) is);
+      second = c.fill_axes.ensures.second ∙ ap (λ (t : Scramble). map (sequence a.plan t).y (range a.start (length a.ys.now))) same
+          ∙ sym (ap (λ (b : Buffers). b.y) is);
     }

@@ -1,65 +1,67 @@
 -- `Walk::step`: refused where the flips are, and else the tests of the step of ranges, in its order.
-use mathlib.Core.Path.{◌≡◌}
+use mathlib.Core.Path.{◌≡◌, sym, ap, ◌∙◌}
 use native.Mathlib.Omega.{arith}
+use borrow.Author.Rules.{rules}
 use borrow.Author.Tests.{eq-eqb, ne_eqb, le-ltb}
+use Rattle.std.specs.Prelude.{Err}
 use Rattle.ranges.specs.Walk.{Stepped, step}
 use Rattle.net.specs.Run.{Visit, visit}
 use Rattle.refusal.specs.Outcome.{accepted}
+use Rattle.refusal.specs.Refusal.{of_result}
+use Rattle.refusal.proofs.Results.{stops, passes, gives}
 use Rattle.word.specs.Index.{last_index}
-use Rattle.flips.specs.declared.sets.Flips.{Flips}
-use Rattle.flips.specs.Load.{flips_of}
-use Rattle.flips.proofs.Judging.{flips-stop}
+use Rattle.flips.specs.Load.{flips_tests}
 use Rattle.plan.specs.declared.points.Scramble.{Scramble}
-use Rattle.plan.specs.Pair.{sequence, scramble_of}
-use Rattle.plan.specs.Walk.{of_walk, step_outcome}
-use Rattle.plan.proofs.Laws.{tells, gives, step-refused, step_taken}
+use Rattle.plan.specs.Pair.{sequence, scramble_lent}
+use Rattle.plan.specs.Walk.{of_walk, of_visit, answer_of, step_outcome}
+use Rattle.plan.proofs.Laws.{tells, step-refused, step_taken}
 use Rattle.plan.proofs.walks.Walk.step.Goals as goal
-use Rattle.plan.proofs.walks.Walk.step.Goals.{In-Accepted, Start}
+use Rattle.plan.proofs.walks.Walk.step.Goals.{In_ok-scramble}
 
--- the bytes lent for flips, and the step under a scramble
-abbrev lent : goal.Start → Flips
-lent s = flips_of s.args.flips_x.now s.args.flips_y.now
+-- the step of ranges under the scramble that was loaded is what the call comes to
+abbrev under : goal.In_ok-scramble → Scramble → Stepped Visit
+under d s = step (visit (sequence d.args.plan s)) last_index (of_walk d.args.self.now)
 
-abbrev under : goal.Start → Scramble → Stepped Visit
-under s scramble = step (visit (sequence s.args.plan scramble)) last_index (of_walk s.args.self)
-
-taken : (d : goal.In-Accepted) {t : Stepped Visit}
-    → t ≡ (step (visit (sequence d.args.plan (record { shift = d.args.shift; flips = d.load-loaded.result.flips }))) last_index (of_walk d.args.self))
-    → let a = d.args in accepted t ≡ step_outcome a.plan (scramble_of a.shift a.flips_x.now a.flips_y.now) (of_walk a.self)
+taken : (d : goal.In_ok-scramble) {t : Stepped Visit} → t ≡ under d d.in_ok-scramble.scramble
+    → accepted t ≡ step_outcome d.args.plan (scramble_lent d.args.lent) (of_walk d.args.self.now)
 taken d made =
-    let l = d.load-loaded in
-    gives d.args.shift ((flips_of d.args.flips_x.now d.args.flips_y.now)) l.ensures.answer d.in-Accepted.is ((let the_under : Scramble
-    → Stepped Visit = λ scramble. step (visit (sequence d.args.plan scramble)) last_index (of_walk d.args.self) in
-    the_under)) l.ensures.flips made
+    let s = scramble_lent d.args.lent in
+    let ok = d.in_ok-scramble in
+    let same : ok.scramble ≡ s = gives (λ t. t) (flips_tests s.flips) s d.load.result d.load.ensures _ ok.was in
+    ap accepted (made ∙ ap (under d) same) ∙ sym (passes (λ t. t) (flips_tests s.flips) s d.load.result d.load.ensures _ ok.was _)
 
-pub returns-in-Refused : goal.returns-in-Refused
-returns-in-Refused c =
-    let both = step-refused (of_walk c.args.self)
-    (flips-stop (lent (goal.at.returns-in-Refused c).Start) c.load-loaded.ensures.answer c.in-Refused.is (accepted (under
-    (goal.at.returns-in-Refused c).Start (scramble_of c.args.shift
-    c.args.flips_x.now c.args.flips_y.now)))) in record { step = both.0; walk = both.1 }
+pub returns-in_err-scramble : goal.returns-in_err-scramble
+returns-in_err-scramble c =
+    let s = scramble_lent c.args.lent in
+    let why = c.in_err-scramble.field-0.0 in
+    let back : c.from_residual.result ≡ Err why = search rules in
+    let stop = stops (λ t. t) (flips_tests s.flips) s c.load.result c.load.ensures why c.in_err-scramble.was
+    (accepted (step (visit (sequence c.args.plan s)) last_index (of_walk c.args.self.now))) in
+    let both = step-refused (of_walk c.args.self.now) stop in
+    record { step = ap (of_result (answer_of of_visit)) back ∙ both.0; walk = both.1 }
 
-pub returns-then-left-eq0 : goal.returns-then-left-eq0
+pub returns-then-self-eq0 : goal.returns-then-self-eq0
 unfolding step
-returns-then-left-eq0 c = let both = step_taken (of_walk c.args.self) (taken (goal.at.returns-then-left-eq0 c).In-Accepted (simp
-    (eq-eqb _ _ c.if-left-eq0.true, step))) in record { step = both.0; walk = both.1 }
+returns-then-self-eq0 c =
+    let both = step_taken (of_walk c.args.self.now) (taken (goal.at.returns-then-self-eq0 c).In_ok-scramble (simp
+    (eq-eqb _ _ c.if-self-eq0.true, step))) in record { step = both.0; walk = both.1 }
 
-pub returns-then-next : goal.returns-then-next
+pub returns-then-index : goal.returns-then-index
 unfolding step
-returns-then-next c =
+returns-then-index c =
     let a = c.args in
-    let s : Scramble = record { shift = a.shift; flips = c.load-loaded.result.flips } in
-    let both = step_taken (of_walk a.self)
-    (taken (goal.at.returns-then-next c).In-Accepted
-    (simp (ne_eqb _ _ c.if-left-eq0.false, le-ltb last_index a.self.next (omega arith), eq-eqb _ _ c.if-next.true, step)
-    (tells (sequence a.plan s) _ a.self.next _ _ c.scrambled_point-at.ensures))) in record { step = both.0; walk = both.1 }
+    let s = c.in_ok-scramble.scramble in
+    let w = a.self.now in
+    let both = step_taken (of_walk w) (taken (goal.at.returns-then-index c).In_ok-scramble
+    (simp (ne_eqb _ _ c.if-self-eq0.false, le-ltb last_index w.next (omega arith), eq-eqb _ _ c.if-index.true, step)
+    (tells (sequence a.plan s) _ w.next _ _ c.scrambled_point-at.ensures))) in record { step = both.0; walk = both.1 }
 
-pub returns : goal.returns
+pub returns-else-index : goal.returns-else-index
 unfolding step
-returns c =
+returns-else-index c =
     let a = c.args in
-    let s : Scramble = record { shift = a.shift; flips = c.load-loaded.result.flips } in
-    let both = step_taken (of_walk a.self)
-    (taken (goal.at.returns c).In-Accepted
-    (simp (ne_eqb _ _ c.if-left-eq0.false, le-ltb last_index a.self.next (omega arith), ne_eqb _ _ c.if-next.false, step)
-    (tells (sequence a.plan s) _ a.self.next _ _ c.scrambled_point-at.ensures))) in record { step = both.0; walk = both.1 }
+    let s = c.in_ok-scramble.scramble in
+    let w = a.self.now in
+    let both = step_taken (of_walk w) (taken (goal.at.returns-else-index c).In_ok-scramble
+    (simp (ne_eqb _ _ c.if-self-eq0.false, le-ltb last_index w.next (omega arith), ne_eqb _ _ c.if-index.false, step)
+    (tells (sequence a.plan s) _ w.next _ _ c.scrambled_point-at.ensures))) in record { step = both.0; walk = both.1 }
