@@ -10,12 +10,15 @@ use borrow.Author.Tests.{eq-eqb, ne_eqb, le-leb, leb-true, leb-false, not-false}
 use lib.Dec.{leb}
 use Rattle.ranges.proofs.Order.{eq_or_ne}
 use Rattle.ranges.proofs.Tests.{both_hold}
+use Rattle.std.specs.Prelude.{Result, Ok}
 use Rattle.refusal.specs.Outcome.{Outcome, accepted, refused, first}
+use Rattle.refusal.specs.Refusal.{of_judgement}
+use Rattle.refusal.specs.declared.Refusal.{Refusal}
 use Rattle.refusal.proofs.First.{first-none, first-refuses, first_passes, accepted-refused, all_pass}
 use Rattle.stage.specs.declared.regions.Field.{Field}
 use Rattle.stage.specs.declared.regions.Region.{Region}
 use Rattle.stage.specs.Field.{field_extent, span}
-use Rattle.stage.specs.Region.{within, takes, outside, position_tests, corners}
+use Rattle.stage.specs.Region.{within, takes, outside, position_tests, corners, corner_outcome, position_outcome}
 use Rattle.stage.proofs.Limits.{within_has, within-from}
 
 -- 0 counts as 1, and every other word as itself
@@ -134,6 +137,13 @@ both_pass after f r e =
 pub pass_both : {A : Type 0} (after : Outcome A) (f : Field) (r : Region) → within r ≡ true → takes f r ≡ true
     → first (position_tests f r) after ≡ after
 pass_both after f r i t = first_passes after 10 _ (ap not i) ∙ first_passes after 16 [] (ap not t) ∙ first-none after
+
+-- a judged region, asked for the corner of the field
+pub placed : (f : Field) (r : Region) (x y : ℕ) (judged : Result Unit Refusal) → of_judgement judged ≡ first (position_tests f r) (accepted tt)
+    → (u : Unit) → judged ≡ Ok u → corner_outcome (corners f r) x y ≡ position_outcome f r x y
+placed f r x y judged is u was =
+    let p = both_pass (accepted tt) f r (sym is ∙ ap of_judgement was) in
+    first_passes _ 10 [] (ap not (corners-within f r p.0 p.1)) ∙ first-none _ ∙ sym (pass_both _ f r p.0 p.1)
 
 -- both tests as one
 pub judged-accepted : {A : Type 0} (a : A) {b : A} (f : Field) (r : Region) → first (position_tests f r) (accepted a) ≡ accepted b
