@@ -1,7 +1,7 @@
 -- The laws of `chain_outcome` and `whole`, one for each case of the code, and what an accepted link, chain or file has. They hold for every
 -- list of tests of a record.
 -- Assumes nothing.
-use mathlib.Core.Path.{◌≡◌, refl, sym, ◌∙◌}
+use mathlib.Core.Path.{◌≡◌, refl, sym}
 use mathlib.Core.Bool.{Bool, true, false, cond}
 use mathlib.Core.List.{List}
 use mathlib.Core.Logic.{◌⊎◌, inl, inr}
@@ -13,26 +13,12 @@ use lib.Dec.{eqb}
 use lib.ListN.{length}
 use Rattle.ranges.proofs.Tests.{both_hold}
 use Rattle.refusal.specs.Outcome.{Outcome, accepted, refused, Test, first}
-use Rattle.refusal.proofs.First.{accepted-refused, AllPass, all_pass, refused_before, passed_before, first-append}
+use Rattle.refusal.proofs.First.{accepted-refused, AllPass, all_pass, refused_before, passed_before}
 use Rattle.stage.specs.declared.regions.Field.{Field}
-use Rattle.stage.specs.Region.{within, takes, position_tests}
+use Rattle.stage.specs.Region.{within, takes}
 use Rattle.region_file.specs.declared.records.Record.{Record}
 use Rattle.region_file.specs.Records.{record_bytes, most_bytes, record_at, first_record, record_count, most_records}
-use Rattle.region_file.specs.Judge.{
-  whole,
-  head_tests,
-  head_outcome,
-  most_visits,
-  record_tests,
-  loader_tests,
-  link_tests,
-  record_outcome,
-  link_outcome,
-  nowhere,
-  also,
-  chain_outcome,
-  judge_outcome,
-}
+use Rattle.region_file.specs.Judge.{whole, head_tests, head_outcome, most_visits, record_tests, loader_tests, link_tests, link_outcome, nowhere, also, chain_outcome, judge_outcome}
 
 -- what a record has that passes the tests of the listing and further ones, with the reader's field f
 pub record Sound (further : Record → List Test) (f : Field) (r : Record) : Type 0 where

@@ -54,7 +54,8 @@ module _ (tests : Record → List Test) (file : List ℕ) (few : record_count fi
       let o : free ms ≡ suc (free (set ms n true)) = free-set ms n k p.fresh in
       let next : ℕ = (record_at file n).next in
       ap (λ (v : ℕ → Bool). chain_outcome tests file f v next) (sym (marked-set ms n k))
-      ∙ same f g (set ms n true) next (length-set ms n true ∙ l) (get_or-set_other ms n 0 true false (λ q. ne (sym q)) ∙ z) (omega arith) (omega arith)
+      ∙ same f g (set ms n true) next (length-set ms n true ∙ l) (get_or-set_other ms n 0 true false (λ q. ne (sym q)) ∙ z) (omega arith)
+      (omega arith)
       ∙ ap (λ (v : ℕ → Bool). chain_outcome tests file g v next) (marked-set ms n k))
 
 pub chains_end : ChainsEnd

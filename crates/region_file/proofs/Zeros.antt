@@ -1,4 +1,6 @@
 -- `zeros` by the bytes one by one, as the code looks at them.
+use Rattle.std.specs.Prelude.{IsTrue, EachIndex, slice_range, slice_index, ◌↔◌}
+use Rattle.std.proofs.lemmas.List.{get_or-drop, get_or-take}
 use mathlib.Core.Path.{◌≡◌, refl, sym, ap, ◌∙◌}
 use mathlib.Core.Bool.{Bool, true, false, true≢false}
 use mathlib.Core.List.{List}
@@ -8,8 +10,6 @@ use native.Mathlib.Omega.{arith}
 use borrow.Author.Tests.{eq-eqb, eqb-true}
 use lib.Dec.{eqb}
 use lib.ListN.{length, get_or, take, drop, length-take, length-drop}
-use Rattle.std.specs.Prelude.{IsTrue, EachIndex, slice_range, slice_index, ◌↔◌}
-use Rattle.std.proofs.lemmas.List.{get_or-drop, get_or-take}
 use Rattle.ranges.proofs.Tests.{both_hold}
 use Rattle.region_file.specs.Records.{zeros}
 

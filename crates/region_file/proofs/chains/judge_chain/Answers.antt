@@ -46,7 +46,8 @@ returns-in-Err c =
     let i = c.loop-link in
     let v = marked i.marks in
     let ne = c.loop-link-test.true in
-    let refuses = ap (λ (b : Bool). link_outcome (listing_tests file) file b i.link.named) (sym (seen (goal.at.returns-in-Err c).After-unwrap_or-seen))
+    let refuses = ap (λ (b : Bool). link_outcome (listing_tests file) file b i.link.named)
+    (sym (seen (goal.at.returns-in-Err c).After-unwrap_or-seen))
     ∙ sym c.in-Err.ensures in
     let some = free-some i.marks i.invariant.whole i.invariant.head_free in record {
       judgement = sym (chain_refused (listing_tests file) file v i.link.named ne (free i.marks) some refuses) ∙ i.invariant.judged;
