@@ -18,7 +18,20 @@ use Rattle.stage.specs.declared.regions.Field.{Field}
 use Rattle.stage.specs.Region.{within, takes}
 use Rattle.region_file.specs.declared.records.Record.{Record}
 use Rattle.region_file.specs.Records.{record_bytes, most_bytes, record_at, first_record, record_count, most_records}
-use Rattle.region_file.specs.Judge.{whole, head_tests, head_outcome, most_visits, record_tests, loader_tests, link_tests, link_outcome, nowhere, also, chain_outcome, judge_outcome}
+use Rattle.region_file.specs.Judge.{
+  whole,
+  head_tests,
+  head_outcome,
+  most_visits,
+  record_tests,
+  loader_tests,
+  link_tests,
+  link_outcome,
+  nowhere,
+  also,
+  chain_outcome,
+  judge_outcome,
+}
 
 -- what a record has that passes the tests of the listing and further ones, with the reader's field f
 pub record Sound (further : Record → List Test) (f : Field) (r : Record) : Type 0 where
