@@ -7,5 +7,6 @@ mod fields;
 mod groups;
 mod numerals;
 
-pub use columns::{right_number, right_signed_number};
-pub use fields::{LONGEST_NUMBER, LONGEST_SIGNED, bytes, has_room, number, signed_number};
+pub use columns::right_number;
+pub use fields::{bytes, has_room, number};
+pub use numerals::{Decimal, LONGEST_NUMBER, LONGEST_SIGNED};
