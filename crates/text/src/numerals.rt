@@ -17,7 +17,7 @@ pub trait Decimal: Copy {
 
     ghost longest: { ℕ };
 
-    // The length of the longest text with the byte after it. (A law could not cite the proof of `fits`, which stands in proofs/.)
+    // The length of the longest text with the byte after it. `fits` is no law, since the proof of a law would have to stand in specs/.
     fn longest() -> usize
         ensures value { result ≡ longest }
         ensures fits { (n : Self) → length (in_decimal n) < longest };
@@ -75,8 +75,8 @@ impl Decimal for i32 {
     }
 }
 
-// How many digits a number has. Comparisons cost less than divisions, and the fewer of them the likely numbers need, the better: record and
-// index have up to four digits, positions mostly five to seven.
+// How many digits a number has. Comparisons cost less than divisions and, as measured, than `ilog10`, and the fewer of them the likely numbers
+// need, the better: record and index have up to four digits, positions mostly five to seven.
 fn digit_count(n: u32) -> usize
     ensures { result ≡ length (decimal n) }
 {
