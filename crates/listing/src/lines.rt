@@ -25,9 +25,9 @@ fn put_line(visit: FileVisit, out: &mut [u8], at: usize) -> usize
     let second = text::number(visit.number, b' ', out, at);
     let third = text::number(visit.index, b' ', out, second);
     let x = visit.x;
-    let fourth = text::signed_number(x, b' ', out, third);
+    let fourth = text::number(x, b' ', out, third);
     let y = visit.y;
-    text::signed_number(y, b'\n', out, fourth)
+    text::number(y, b'\n', out, fourth)
 }
 
 // The lines to come from a walk, each while the longest line has room.

@@ -34,9 +34,9 @@ fn put_visit(visit: FileVisit, out: &mut [u8], at: usize) -> usize
     let second = text::right_number(visit.number, 4, b' ', out, at);
     let third = text::right_number(visit.index, 4, b' ', out, second);
     let x = visit.x;
-    let fourth = text::right_signed_number(x, 8, b' ', out, third);
+    let fourth = text::right_number(x, 8, b' ', out, third);
     let y = visit.y;
-    text::right_signed_number(y, 8, b'\n', out, fourth)
+    text::right_number(y, 8, b'\n', out, fourth)
 }
 
 // The line of the visit that a step gave, or a blank one where it gave none.

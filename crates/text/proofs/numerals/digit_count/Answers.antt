@@ -3,7 +3,7 @@
 use mathlib.Core.Path.{sym}
 use native.Mathlib.Omega.{arith}
 use Rattle.text.proofs.Numbers.{digits_of}
-use Rattle.text.proofs.columns.digit_count.Goals as goal
+use Rattle.text.proofs.numerals.digit_count.Goals as goal
 
 pub returns-then-n-ge1000 : goal.returns-then-n-ge1000
 returns-then-n-ge1000 c = sym (digits_of 3 c.args.n (omega arith) (omega arith) (λ q. omega arith))
