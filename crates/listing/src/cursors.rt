@@ -1,12 +1,13 @@
 // A cursor in a listing: what is still to come, and the next piece of it.
-ghost use Rattle.std.specs.Prelude.{◌≡◌, ◌≤◌, length, take, drop};
+ghost use Rattle.std.specs.Prelude.{◌≡◌, ◌≤◌, length};
 ghost use Rattle.text.specs.Put.{put};
-ghost use Rattle.text.specs.Pieces.{Counts};
+ghost use Rattle.std.proofs.Common.{rules};
 ghost use Rattle.listing.specs.Listing.{listing, longest_line};
-ghost use Rattle.listing.specs.Cursor.{lead_text, to_come, ListingPiece};
+ghost use Rattle.listing.specs.Cursor.{lead_text, to_come};
 
 use crate::lines::{LONGEST_LINE, put_lines};
 use crate::refusals::refusal_line;
+use text::Pieces;
 use visits::FileWalk;
 
 // What stands before the lines that are still to come. A refusal is its number, since the words that C keeps for a cursor may hold any number.
@@ -53,14 +54,18 @@ impl Cursor {
             },
         }
     }
+}
+
+impl Pieces for Cursor {
+    ghost to_come = { to_come };
+
+    ghost longest = { longest_line };
+
+    ghost fits = { Prim.search rules };
 
     // The next piece, as long as the buffer has room for the longest line: hands back how many bytes it has, and moves past it. Bytes of the
     // buffer past it keep their content.
-    pub fn piece(&mut self, file: &[u8], out: &mut [u8]) -> usize
-        ensures counts { Counts result out.new }
-        ensures piece { ListingPiece file.now self.old self.new (take result out.new) (length out.new) }
-        ensures rest { drop result out.new ≡ drop result out.old }
-    {
+    fn piece(&mut self, file: &[u8], out: &mut [u8]) -> usize {
         if out.len() < LONGEST_LINE {
             return 0;
         }

@@ -1,13 +1,14 @@
 // A cursor in a sheet: what is still to come, and the next piece of it.
-ghost use Rattle.std.specs.Prelude.{◌≡◌, ◌+◌, ◌≤◌, length, take, drop};
-ghost use Rattle.text.specs.Pieces.{Counts};
+ghost use Rattle.std.specs.Prelude.{◌≡◌, ◌+◌, ◌≤◌, length};
+ghost use Rattle.std.proofs.Common.{rules};
 ghost use Rattle.listing.specs.Listing.{longest_line};
 ghost use Rattle.sheet.specs.Sheet.{sheet};
-ghost use Rattle.sheet.specs.Cursor.{sheet_to_come, SheetPiece};
+ghost use Rattle.sheet.specs.Cursor.{sheet_to_come};
 ghost use Rattle.sheet.specs.Lines.{after_number, LinePut};
 
 use crate::page_lines::{put_heading, put_page_number, put_step};
 use listing::{LONGEST_LINE, refusal_line};
+use text::Pieces;
 use visits::{FileVisit, FileWalk};
 
 // The number of visits that have room on a page.
@@ -98,14 +99,18 @@ impl Cursor {
             Place::End => at,
         }
     }
+}
+
+impl Pieces for Cursor {
+    ghost to_come = { sheet_to_come };
+
+    ghost longest = { longest_line };
+
+    ghost fits = { Prim.search rules };
 
     // The next piece, as long as the buffer has room for the longest line: hands back how many bytes it has, and moves past it. Bytes of the
     // buffer past it keep their content.
-    pub fn piece(&mut self, file: &[u8], out: &mut [u8]) -> usize
-        ensures counts { Counts result out.new }
-        ensures piece { SheetPiece file.now self.old self.new (take result out.new) (length out.new) }
-        ensures rest { drop result out.new ≡ drop result out.old }
-    {
+    fn piece(&mut self, file: &[u8], out: &mut [u8]) -> usize {
         let mut len = 0;
         while out.len() - len >= LONGEST_LINE {
             let end = self.put_line(file, out, len);

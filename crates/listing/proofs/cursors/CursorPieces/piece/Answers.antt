@@ -1,4 +1,4 @@
--- `Cursor::piece`: the lead's text and the lines put behind it are what was to come, up to what is to come from the cursor past them.
+-- `CursorPieces::piece`: the lead's text and the lines put behind it are what was to come, up to what is to come from the cursor past them.
 use mathlib.Core.Path.{◌≡◌, refl, sym, ap, ◌∙◌}
 use Prim.Native.Nat.{zero-le}
 use native.Mathlib.Nat.{zero-add}
@@ -11,8 +11,8 @@ use Rattle.text.proofs.Filling.{joined, beyond, behind}
 use Rattle.listing.specs.Listing.{lines}
 use Rattle.listing.specs.Cursor.{lead_text, to_come}
 use Rattle.listing.proofs.Putting.{lines_none}
-use Rattle.listing.proofs.cursors.Cursor.piece.Goals as goal
-use Rattle.listing.proofs.cursors.Cursor.piece.Goals.{After-put_lines}
+use Rattle.listing.proofs.cursors.CursorPieces.piece.Goals as goal
+use Rattle.listing.proofs.cursors.CursorPieces.piece.Goals.{After-put_lines}
 
 -- the lead's text is put at the start
 led : (c : After-put_lines) → Writes c.args.out.now 0 (lead_text c.args.self.now.lead) c.put_lead-at.result c.put_lead-at.new.out

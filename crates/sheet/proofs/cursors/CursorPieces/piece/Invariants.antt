@@ -1,8 +1,8 @@
--- `Cursor::piece`: what stands in the buffer, with the text to come, stays the same, line by line.
+-- `CursorPieces::piece`: what stands in the buffer, with the text to come, stays the same, line by line.
 use Rattle.std.proofs.Common.{◌≡◌, ℕ, ◌-◌, ◌≤◌, List, ◌++◌, length, take, drop}
 use Rattle.sheet.specs.declared.cursors.Cursor.{Cursor}
 use Rattle.sheet.specs.Cursor.{sheet_to_come}
-use Rattle.sheet.proofs.cursors.Cursor.piece.Given as goal
+use Rattle.sheet.proofs.cursors.CursorPieces.piece.Given as goal
 
 -- the text in the buffer and the text to come are what was to come at first, and behind it the buffer is as it was
 pub record Kept (file out₀ : List ℕ) (cursor₀ : Cursor) (out : List ℕ) (cursor : Cursor) (len : ℕ) : Type 0 where

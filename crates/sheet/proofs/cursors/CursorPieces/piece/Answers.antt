@@ -1,9 +1,9 @@
--- `Cursor::piece`: what stands in the buffer, with the text to come, stays the same, line by line.
+-- `CursorPieces::piece`: what stands in the buffer, with the text to come, stays the same, line by line.
 use Rattle.std.proofs.Common.{◌≡◌, ℕ, List, ◌++◌, length, take, ap, ◌∙◌, arith}
 use Rattle.text.proofs.Puts.{writes_keeps_length}
 use Rattle.text.proofs.Filling.{joined, beyond}
 use Rattle.sheet.specs.Cursor.{sheet_to_come}
-use Rattle.sheet.proofs.cursors.Cursor.piece.Goals as goal
+use Rattle.sheet.proofs.cursors.CursorPieces.piece.Goals as goal
 
 pub loop-out-preserved : goal.loop-out-preserved
 loop-out-preserved c =
