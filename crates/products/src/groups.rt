@@ -38,7 +38,8 @@ pub(crate) fn in_groups(axis: Axis, masking: Masking, tables: &[u32], start: Ind
     );
 }
 
-// The same, with the place where the table of a first product begins.
+// The same, with the place where the table of a first product begins. The groups go by their numbers, since after chunks_exact_mut a proof
+// knows how long the buffer is and not what it holds.
 fn by_tables<F: Fn(u32) -> usize>(
     axis: Axis,
     masking: Masking,
