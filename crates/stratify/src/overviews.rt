@@ -112,10 +112,11 @@ pub fn overview(
     let column = columns.first().copied().unwrap_or(0);
     let row = rows.first().copied().unwrap_or(0);
     let (scramble, shape) = judge(lent, level, m, a, column, row, block)?;
-    let inverse = match invert(shape_columns(plan, m, a), m) {
-        Ok(inverse) => inverse,
-        Err(d) => return Err(Refusal::NotNet { m, a, j: d.kernel }),
-    };
+    let inverse = invert(shape_columns(plan, m, a), m).map_err(|d| Refusal::NotNet {
+        m,
+        a,
+        j: d.kernel,
+    })?;
     if others_outside(shape, columns, rows) {
         return Err(Refusal::Cell);
     }

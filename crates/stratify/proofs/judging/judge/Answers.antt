@@ -1,8 +1,6 @@
 -- `judge`: its tests are those of the definition, in its order.
 use mathlib.Core.Path.{◌≡◌, sym, ap, ◌∙◌}
 use mathlib.Core.Bool.{false}
-use Prim.Native.Nat.{ℕ, ◌≤◌}
-use native.Mathlib.Omega.{arith}
 use borrow.Author.Rules.{rules}
 use Rattle.std.specs.Prelude.{Err}
 use Rattle.refusal.specs.Outcome.{accepted}
@@ -10,7 +8,6 @@ use Rattle.refusal.specs.Refusal.{of_result}
 use Rattle.refusal.proofs.Results.{stops, gives}
 use Rattle.flips.specs.Load.{flips_tests, flips_outcome}
 use Rattle.plan.specs.Pair.{scramble_lent, unknown_level}
-use Rattle.plan.proofs.Level.{level_of}
 use Rattle.stratify.proofs.Tests.{level_refuses, flips_refuse, flips_pass, size_refuses, shape-refuses, cell_first, block_refuses, all-pass}
 use Rattle.stratify.proofs.judging.judge.Goals as goal
 use Rattle.stratify.proofs.judging.judge.Goals.{Else-unknown_level, In_ok-scramble}
