@@ -1,7 +1,7 @@
 -- An error that `map_err` makes of the dependent columns of a shape. Assumes nothing.
+use Rattle.std.specs.Prelude.{Result, Ok, Err, MatchResult, IsErrAnd}
 use mathlib.Core.Path.{◌≡◌, refl, sym, ◌∙◌}
 use borrow.Author.Rules.{rules}
-use Rattle.std.specs.Prelude.{Result, Ok, Err, MatchResult, IsErrAnd}
 use Rattle.refusal.specs.declared.Refusal.{Refusal}
 use Rattle.elimination.specs.declared.kernel.Dependent.{Dependent}
 

@@ -1,4 +1,5 @@
 -- `overview`: the tests in an order that comes to the same, and then the answers.
+use Rattle.std.specs.Prelude.{Ok, Err}
 use mathlib.Core.Path.{◌≡◌, refl, sym, ap, ap₂, ◌∙◌, subst}
 use mathlib.Core.Logic.{inl, inr}
 use mathlib.Core.List.{List, [], ◌∷◌}
@@ -9,7 +10,6 @@ use lib.ListN.{length, get_or}
 use lib.Pow.{pow_pos}
 use mir.Syntax.{w32}
 use mir.Val.{Fits}
-use Rattle.std.specs.Prelude.{Ok, Err}
 use Rattle.net.specs.Shape.{Shape}
 use Rattle.refusal.specs.Outcome.{Outcome, accepted, Test, first}
 use Rattle.refusal.specs.Refusal.{of_judgement}

@@ -39,4 +39,5 @@ returns c =
     (λ i h.
     let (hc, hr) = inside i h in
     ap (λ (v : ℕ). bit_xor c.join-base.result (product 2 a.inverse v)) (c.put_numbers.ensures i h)
-    ∙ answered (shape (goal.at.returns c).After-join-base) a.scramble p.1 a.block a.inverse p.3 _ _ _ hc hr (base_is (goal.at.returns c).After-join-base))
+    ∙ answered (shape (goal.at.returns c).After-join-base) a.scramble p.1 a.block a.inverse p.3 _ _ _ hc hr
+    (base_is (goal.at.returns c).After-join-base))

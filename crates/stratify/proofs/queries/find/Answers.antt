@@ -1,10 +1,10 @@
 -- `find`: the index that an elimination gives is the only one; where the columns are dependent, the shape is no net.
+use Rattle.std.specs.Prelude.{Ok, Err}
 use mathlib.Core.Path.{◌≡◌, refl, sym, ap, ◌∙◌, subst}
 use Prim.Native.Nat.{ℕ, ◌+◌, ◌*◌, ◌^◌, ◌<◌}
 use native.Mathlib.Omega.{arith}
 use borrow.Author.Rules.{rules}
 use lib.Bits.{bit_xor}
-use Rattle.std.specs.Prelude.{Ok, Err}
 use Rattle.ranges.specs.Unique.{Only}
 use Rattle.digits.proofs.Two.{one_lt_two}
 use Rattle.linear.proofs.Prime.{two}
