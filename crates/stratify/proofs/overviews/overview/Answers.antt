@@ -165,7 +165,7 @@ put_answers-requires c =
         at_shape (λ m n. ShapeInverse (generators a.plan) m n c.in_ok-inverse.inverse) e.0 e.1
             (inverse-of-shape (shape p) (columns p) (inverts.within (shape p).fits)),
       );
-      all_inside = (at_shape (λ m n. AllInside m n a.columns.now a.rows.now) e.0 e.1 all, c.if-n-rows.false, c.if-n-answers.false);
+      all_inside = (at_shape (λ m n. AllInside m n a.columns.now a.rows.now) e.0 e.1 all, c.if-n-answers.false);
     }
 
 pub returns : goal.returns
