@@ -19,10 +19,11 @@ fn scan_size(plan: Plan, m: u32, from: u32) -> Result<(), Refusal>
         (λ why. (level : ℕ) → m ≤ level → level ≤ largest_level → of_refusal why ≡ of_verdict (check (generators plan) level)) }
 {
     for a in from..m + 1 {
-        if let Err(dependent) = eliminate(shape_columns(plan, m, a), m, 0) {
-            let j = dependent.kernel;
-            return Err(Refusal::NotNet { m, a, j });
-        }
+        eliminate(shape_columns(plan, m, a), m, 0).map_err(|d| Refusal::NotNet {
+            m,
+            a,
+            j: d.kernel,
+        })?;
     }
     Ok(())
 }

@@ -19,36 +19,45 @@ use plan::{LentScramble, Plan, Scramble};
 use refusal::Refusal;
 use word::{Columns, Index, join};
 
-// Whether a cell after the first lies outside the shape.
-fn others_outside(shape: Shape, columns: &[u32], rows: &[u32]) -> bool
-    requires { length columns.now ≡ length rows.now }
-    ensures { result ≡ (others_outside shape.m shape.a columns.now rows.now).holds }
-{
-    for i in 1..columns.len() {
-        if shape.outside(columns[i], rows[i]) {
-            return true;
-        }
-    }
-    false
+// Cells of one shape, by the list of their columns and that of their rows.
+#[derive(Clone, Copy)]
+struct Cells<'a> {
+    shape: Shape,
+    columns: &'a [u32],
+    rows: &'a [u32],
+    ghost even: { length columns.now ≡ length rows.now },
 }
 
-// Writes in the place of each answer the number of the plain cell from which the scramble leads to its cell.
-fn put_numbers(
-    scramble: Scramble,
-    shape: Shape,
-    columns: &[u32],
-    rows: &[u32],
-    answers: &mut [Index],
-)
-    requires all_inside { AllInside shape.m shape.a columns.now rows.now }
-    requires columns_len { (length columns.now ≡ length rows.now) × (length columns.now ≡ length answers.old) }
-    ensures { (d : ℕ) → d < length columns.now → get_or answers.new d 0
-        ≡ plain_number scramble shape.m shape.a (get_or columns.now d 0) (get_or rows.now d 0) }
-{
-    let unflipped = scramble.flips.none_set();
-    let added = shape.number_at(scramble.shift.x, scramble.shift.y);
-    for (i, answer) in answers.iter_mut().enumerate() {
-        *answer = plain_number_among(scramble, unflipped, added, shape, columns[i], rows[i]);
+impl<'a> Cells<'a> {
+    // Whether a cell after the first lies outside the shape.
+    fn others_outside(self) -> bool
+        ensures { let c = self.entry in result ≡ (others_outside c.shape.m c.shape.a c.columns.now c.rows.now).holds }
+    {
+        for i in 1..self.columns.len() {
+            if self.shape.outside(self.columns[i], self.rows[i]) {
+                return true;
+            }
+        }
+        false
+    }
+
+    // Writes in the place of each answer the number of the plain cell from which the scramble leads to its cell.
+    fn put_numbers(self, scramble: Scramble, answers: &mut [Index])
+        requires all_inside { AllInside self.shape.m self.shape.a self.columns.now self.rows.now }
+        requires room { length self.columns.now ≡ length answers.old }
+        ensures { let c = self.entry in (d : ℕ) → d < length c.columns.now → get_or answers.new d 0
+            ≡ plain_number scramble c.shape.m c.shape.a (get_or c.columns.now d 0) (get_or c.rows.now d 0) }
+    {
+        let Cells {
+            shape,
+            columns,
+            rows,
+        } = self;
+        let unflipped = scramble.flips.none_set();
+        let added = shape.number_at(scramble.shift.x, scramble.shift.y);
+        for (i, answer) in answers.iter_mut().enumerate() {
+            *answer = plain_number_among(scramble, unflipped, added, shape, columns[i], rows[i]);
+        }
     }
 }
 
@@ -67,21 +76,21 @@ fn put_answers(
     plan: Plan,
     scramble: Scramble,
     inverse: Columns,
-    shape: Shape,
     block: Block,
-    columns: &[u32],
-    rows: &[u32],
+    cells: Cells,
     answers: &mut [Index],
 )
-    requires valid { Valid (generators plan) × ShiftFits scramble.shift × Cell largest_level shape.m shape.a block 0 0
-        × ShapeInverse (generators plan) shape.m shape.a inverse }
-    requires all_inside { AllInside shape.m shape.a columns.now rows.now
-        × (length columns.now ≡ length rows.now) × (length columns.now ≡ length answers.old) }
-    ensures { answers.new ≡ visit_indexes (sequence plan scramble) shape.m shape.a block columns.now rows.now }
+    requires valid { Valid (generators plan) × ShiftFits scramble.shift
+        × Cell largest_level cells.shape.m cells.shape.a block 0 0
+        × ShapeInverse (generators plan) cells.shape.m cells.shape.a inverse }
+    requires all_inside { AllInside cells.shape.m cells.shape.a cells.columns.now cells.rows.now
+        × (length cells.columns.now ≡ length answers.old) }
+    ensures { let c = cells.entry in
+        answers.new ≡ visit_indexes (sequence plan scramble) c.shape.m c.shape.a block c.columns.now c.rows.now }
 {
-    let first = block_cell(plan, shape, block);
-    let base = join(block, word::product(inverse, first), shape.m);
-    put_numbers(scramble, shape, columns, rows, answers);
+    let first = block_cell(plan, cells.shape, block);
+    let base = join(block, word::product(inverse, first), cells.shape.m);
+    cells.put_numbers(scramble, answers);
     put_indexes(inverse, base, answers);
 }
 
@@ -112,15 +121,19 @@ pub fn overview(
     let column = columns.first().copied().unwrap_or(0);
     let row = rows.first().copied().unwrap_or(0);
     let (scramble, shape) = judge(lent, level, m, a, column, row, block)?;
-    let inverse = match invert(shape_columns(plan, m, a), m) {
-        Ok(inverse) => inverse,
-        Err(d) => return Err(Refusal::NotNet { m, a, j: d.kernel }),
+    let inverse = invert(shape_columns(plan, m, a), m).map_err(|d| Refusal::NotNet {
+        m,
+        a,
+        j: d.kernel,
+    })?;
+    let cells = Cells {
+        shape,
+        columns,
+        rows,
     };
-    if others_outside(shape, columns, rows) {
+    if cells.others_outside() {
         return Err(Refusal::Cell);
     }
-    put_answers(
-        plan, scramble, inverse, shape, block, columns, rows, answers,
-    );
+    put_answers(plan, scramble, inverse, block, cells, answers);
     Ok(())
 }

@@ -33,10 +33,12 @@ fn find(
 {
     let Shape { m, a } = shape;
     let cell = plain_number(scramble, shape, column, row) ^ block_cell(plan, shape, block);
-    match eliminate(shape_columns(plan, m, a), m, cell) {
-        Ok(index) => Ok(join(block, index, m)),
-        Err(d) => Err(Refusal::NotNet { m, a, j: d.kernel }),
-    }
+    let index = eliminate(shape_columns(plan, m, a), m, cell).map_err(|d| Refusal::NotNet {
+        m,
+        a,
+        j: d.kernel,
+    })?;
+    Ok(join(block, index, m))
 }
 
 // The one index of a block in a cell of the shape (m, a). No earlier check of the matrices is needed.

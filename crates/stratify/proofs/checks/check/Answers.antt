@@ -1,11 +1,11 @@
 -- `check`: 1 as loading has it, then the level, then the shapes.
+use Rattle.std.specs.Prelude.{Err}
 use mathlib.Core.Path.{◌≡◌, sym, ap, ◌∙◌}
 use mathlib.Core.List.{List, [], ◌∷◌}
 use borrow.Author.Rules.{rules}
 use lib.ListN.{get_or}
 use mir.Syntax.{w32}
 use mir.Val.{Fits}
-use Rattle.std.specs.Prelude.{Err}
 use Rattle.net.specs.Check.{check}
 use Rattle.refusal.specs.Outcome.{Outcome, Test, first}
 use Rattle.refusal.specs.Refusal.{of_judgement}

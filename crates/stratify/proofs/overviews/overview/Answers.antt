@@ -1,6 +1,7 @@
 -- `overview`: the tests in an order that comes to the same, and then the answers.
+use Rattle.std.specs.Prelude.{Ok, Err}
 use mathlib.Core.Path.{◌≡◌, refl, sym, ap, ap₂, ◌∙◌, subst}
-use mathlib.Core.Logic.{◌⊎◌, inl, inr}
+use mathlib.Core.Logic.{inl, inr}
 use mathlib.Core.List.{List, [], ◌∷◌}
 use Prim.Native.Nat.{ℕ}
 use native.Mathlib.Omega.{arith}
@@ -9,11 +10,10 @@ use lib.ListN.{length, get_or}
 use lib.Pow.{pow_pos}
 use mir.Syntax.{w32}
 use mir.Val.{Fits}
-use Rattle.std.specs.Prelude.{Err}
-use Rattle.net.specs.Generators.{Valid}
 use Rattle.net.specs.Shape.{Shape}
 use Rattle.refusal.specs.Outcome.{Outcome, accepted, Test, first}
-use Rattle.refusal.specs.Refusal.{of_result, of_judgement}
+use Rattle.refusal.specs.Refusal.{of_judgement}
+use Rattle.refusal.specs.declared.Refusal.TheVariants as variant
 use Rattle.refusal.proofs.First.{first-none, first_passes, first-refuses}
 use Rattle.refusal.proofs.Results.{stops, passes, gives}
 use Rattle.plan.specs.declared.points.Scramble.{Scramble}
@@ -22,10 +22,11 @@ use Rattle.plan.specs.Pair.{generators, sequence, scramble_lent}
 use Rattle.plan.proofs.Laws.{words_valid}
 use Rattle.elimination.specs.Elimination.{ShapeColumns, ShapeInverse, Inverts}
 use Rattle.elimination.proofs.Shapes.{least-of_kernel, determinant-nonzero, inverse-of-shape}
-use Rattle.stratify.specs.Answers.{query_tests, Cell, ShiftFits}
+use Rattle.stratify.specs.Answers.{query_tests, Cell}
 use Rattle.stratify.specs.Overview.{AllInside, others_outside, overview_outcome, visit_indexes}
 use Rattle.stratify.proofs.Outcomes.{cell_passed, cell_of}
 use Rattle.stratify.proofs.Answered.{inside}
+use Rattle.stratify.proofs.Mapped.{made_of}
 use Rattle.stratify.proofs.Overviewed.{refuses, accepts, lengths_decide, tests_refuse, shape-refuses, shape-passes}
 use Rattle.stratify.proofs.overviews.overview.Goals as goal
 use Rattle.stratify.proofs.overviews.overview.Goals.{After-others_outside, After-shape_columns}
@@ -88,16 +89,20 @@ shape c =
 columns : (c : goal.After-shape_columns) → ShapeColumns (generators c.args.plan) c.args.m c.args.a c.shape_columns.result
 columns c = c.shape_columns.ensures.shape (shape c).wide (shape c).fits
 
-pub returns-in-Err : goal.returns-in-Err
-returns-in-Err c =
+pub returns-in_err-inverse : goal.returns-in_err-inverse
+returns-in_err-inverse c =
     let a = c.args in
-    let p = (goal.at.returns-in-Err c).After-shape_columns in
-    let d = c.in-Err.d in
+    let p = (goal.at.returns-in_err-inverse c).After-shape_columns in
+    let why = c.in_err-inverse.field-0.0 in
+    let back : c.from_residual-in_err-inverse.result ≡ Err why = search rules in
+    let t = made_of c.invert.result c.map_err.result _ c.map_err.ensures.cases why c.in_err-inverse.was in
+    let d = t.0 in
     let positive = d.positive in
+    let is : why ≡ variant.NotNet a.m a.a d.kernel = search (rules, t) in
     let both = refuses a.answers.now (shape-refuses a.plan (scramble_lent a.lent) a.level a.m a.a a.block a.columns.now a.rows.now
     a.answers.now c.if-n-rows.false c.if-n-answers.false (passed p) (shape p) d.kernel
-    (least-of_kernel (shape p) (columns p) (c.in-Err.ensures.within (shape p).fits).kernel_is (omega arith))) in
-    record { answer = both.0; answers = both.1 }
+    (least-of_kernel (shape p) (columns p) ((rw t.1 at c.invert.ensures).within (shape p).fits).kernel_is (omega arith))) in
+    record { answer = ap of_judgement (back ∙ ap (λ w. Err w) is) ∙ both.0; answers = both.1 }
 
 -- ---- past 3: 6 of the later cells, or all answers
 
@@ -126,8 +131,10 @@ pub returns-then-others_outside : goal.returns-then-others_outside
 returns-then-others_outside c =
     let at = goal.at.returns-then-others_outside c in
     let p = at.After-shape_columns in
+    let found : c.invert.result ≡ Ok c.in_ok-inverse.inverse = search rules in
+    let inverts = rw found at c.invert.ensures in
     let both = refuses c.args.answers.now
-    (left p c.in-Ok.inverse (c.in-Ok.ensures.within (shape p).fits)
+    (left p c.in_ok-inverse.inverse (inverts.within (shape p).fits)
     ∙ first-refuses _ 6 [] (sym (others-are at.After-others_outside) ∙ c.if-others_outside.true)) in
     record { answer = both.0; answers = both.1 }
 
@@ -137,6 +144,8 @@ put_answers-requires c =
     let a = c.args in
     let at = goal.at.put_answers-requires c in
     let p = at.After-shape_columns in
+    let found : c.invert.result ≡ Ok c.in_ok-inverse.inverse = search rules in
+    let inverts = rw found at c.invert.ensures in
     let f = first_cell p in
     let ok = c.in_ok-scramble in
     let e = ok.ensures.shape in
@@ -153,10 +162,10 @@ put_answers-requires c =
           y = let f : Fits w32 ok.scramble.shift.y = search rules in f.fits;
         },
         at_shape (λ m n. Cell 32 m n a.block 0 0) e.0 e.1 cell,
-        at_shape (λ m n. ShapeInverse (generators a.plan) m n c.in-Ok.inverse) e.0 e.1
-            (inverse-of-shape (shape p) (columns p) (c.in-Ok.ensures.within (shape p).fits)),
+        at_shape (λ m n. ShapeInverse (generators a.plan) m n c.in_ok-inverse.inverse) e.0 e.1
+            (inverse-of-shape (shape p) (columns p) (inverts.within (shape p).fits)),
       );
-      all_inside = (at_shape (λ m n. AllInside m n a.columns.now a.rows.now) e.0 e.1 all, c.if-n-rows.false, c.if-n-answers.false);
+      all_inside = (at_shape (λ m n. AllInside m n a.columns.now a.rows.now) e.0 e.1 all, c.if-n-answers.false);
     }
 
 pub returns : goal.returns
@@ -164,6 +173,8 @@ returns c =
     let a = c.args in
     let at = goal.at.returns c in
     let p = at.After-shape_columns in
+    let found : c.invert.result ≡ Ok c.in_ok-inverse.inverse = search rules in
+    let inverts = rw found at c.invert.ensures in
     let ok = c.in_ok-scramble in
     let e = ok.ensures.shape in
     let visits : Scramble → (m n : ℕ) → List ℕ = λ s m n. visit_indexes (sequence a.plan s) m n a.block a.columns.now a.rows.now in
@@ -171,7 +182,7 @@ returns c =
     let same = gives (λ j. j.0) (tests a.lent a.level a.m a.a a.block a.columns.now a.rows.now) (scramble_lent a.lent) c.judge.result is
     (ok.scramble, ok.shape) ok.was in
     let both = accepts a.answers.now
-    (left p c.in-Ok.inverse (c.in-Ok.ensures.within (shape p).fits)
+    (left p c.in_ok-inverse.inverse (inverts.within (shape p).fits)
     ∙ first_passes _ 6 [] (sym (others-are at.After-others_outside) ∙ c.if-others_outside.false) ∙ first-none _)
     (c.put_answers.ensures ∙ ap₂ (visits ok.scramble) e.0 e.1 ∙ ap (λ (s : Scramble). visits s a.m a.a) same) in
     record { answer = both.0; answers = both.1 }

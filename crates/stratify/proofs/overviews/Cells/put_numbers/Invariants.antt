@@ -1,7 +1,7 @@
 -- `put_numbers`: the numbers of the cells passed are put.
 use Rattle.std.proofs.Common.{◌≡◌, ℕ, ◌<◌, get_or}
 use Rattle.stratify.specs.Strips.{plain_number}
-use Rattle.stratify.proofs.overviews.put_numbers.Given as goal
+use Rattle.stratify.proofs.overviews.Cells.put_numbers.Given as goal
 
 abbrev pub invariant-loop-i : goal.invariant-loop-i
 invariant-loop-i l = (d : ℕ) → d < l.i → get_or l.answers d 0
