@@ -2,40 +2,37 @@
 ghost use Rattle.std.specs.Prelude.{◌≡◌};
 ghost use Rattle.cursor_words.specs.Cursors.{lead_of, cursor_of};
 
-use crate::parts::{Tag, walk_of_part};
-use file_words::words_of;
+use file_words::{FILE_WALK_WORDS, walk_of, words_of};
 use listing::{Cursor, Lead};
 
 // The words that come before those of a file walk.
 const WORDS_BEFORE_WALK: usize = 2;
 
 // Two words for what stands before the lines, and those of a file walk.
-pub const CURSOR_WORDS: usize = 13;
+pub const CURSOR_WORDS: usize = WORDS_BEFORE_WALK + FILE_WALK_WORDS;
 
 // A cursor by these words, one after the other.
 pub type CursorWords = [u32; CURSOR_WORDS];
 
-// What stands before the lines, by its two words: which kind it is, and the number of a refusal.
+// What stands before the lines, by its two words: which kind it is, a number since C keeps it, and the number of a refusal.
 fn lead_of(kind: u32, number: u32) -> Lead
     ensures { result ≡ lead_of kind number }
 {
-    if kind == 0 {
-        return Lead::Nothing;
+    match kind {
+        0 => Lead::Nothing,
+        1 => Lead::Header,
+        _ => Lead::Refused(number),
     }
-    if kind == 1 {
-        return Lead::Header;
-    }
-    Lead::Refused(number)
 }
 
 // Two words that stand for what comes before the lines.
-fn tag_of_lead(lead: Lead) -> Tag
-    ensures { lead_of result.kind result.number ≡ lead }
+fn words_of_lead(lead: Lead) -> (u32, u32)
+    ensures { lead_of result.0 result.1 ≡ lead }
 {
     match lead {
-        Lead::Nothing => Tag { kind: 0, number: 0 },
-        Lead::Header => Tag { kind: 1, number: 0 },
-        Lead::Refused(number) => Tag { kind: 2, number },
+        Lead::Nothing => (0, 0),
+        Lead::Header => (1, 0),
+        Lead::Refused(number) => (2, number),
     }
 }
 
@@ -43,9 +40,10 @@ fn tag_of_lead(lead: Lead) -> Tag
 pub fn cursor_of(words: CursorWords) -> Cursor
     ensures { result ≡ cursor_of words }
 {
+    let [kind, number, walk @ ..] = words;
     Cursor {
-        lead: lead_of(words[0], words[1]),
-        walk: walk_of_part(&words[WORDS_BEFORE_WALK..]),
+        lead: lead_of(kind, number),
+        walk: walk_of(walk),
     }
 }
 
@@ -53,11 +51,10 @@ pub fn cursor_of(words: CursorWords) -> Cursor
 pub fn words_of_cursor(cursor: Cursor) -> CursorWords
     ensures { cursor_of result ≡ cursor }
 {
-    let lead = cursor.lead;
-    let tag = tag_of_lead(lead);
-    let walk = words_of(cursor.walk);
-    [
-        tag.kind, tag.number, walk[0], walk[1], walk[2], walk[3], walk[4], walk[5], walk[6],
-        walk[7], walk[8], walk[9], walk[10],
-    ]
+    let (kind, number) = words_of_lead(cursor.lead);
+    let mut words = [0; CURSOR_WORDS];
+    words[0] = kind;
+    words[1] = number;
+    words[WORDS_BEFORE_WALK..].copy_from_slice(&words_of(cursor.walk));
+    words
 }

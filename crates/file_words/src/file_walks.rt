@@ -14,28 +14,38 @@ pub const FILE_WALK_WORDS: usize = 11;
 // A file walk by its fields, one after the other.
 pub type FileWalkWords = [u32; FILE_WALK_WORDS];
 
-// The walk that some words stand for. All words stand for one.
+// The walk that some words stand for. All words stand for one. (An array is no type of this crate, so `From` can't be written for it.)
 pub fn walk_of(words: FileWalkWords) -> FileWalk
     ensures { result ≡ walk_of words }
 {
+    let [
+        number,
+        next,
+        left,
+        top,
+        width,
+        height,
+        x,
+        y,
+        count,
+        index,
+        links,
+    ] = words;
     FileWalk {
-        number: words[0],
+        number,
         planned: Record {
-            next: words[1],
+            next,
             region: Region {
-                left: cast_signed(words[2]),
-                top: cast_signed(words[3]),
-                width: words[4],
-                height: words[5],
+                left: cast_signed(left),
+                top: cast_signed(top),
+                width,
+                height,
             },
-            shift: Shift {
-                x: words[6],
-                y: words[7],
-            },
-            count: words[8],
+            shift: Shift { x, y },
+            count,
         },
-        index: words[9],
-        links: words[10],
+        index,
+        links,
     }
 }
 
@@ -43,21 +53,22 @@ pub fn walk_of(words: FileWalkWords) -> FileWalk
 pub fn words_of(walk: FileWalk) -> FileWalkWords
     ensures { walk_of result ≡ walk }
 {
-    let planned = walk.planned;
-    let region = planned.region;
-    let shift = planned.shift;
-    let left = region.left;
-    let top = region.top;
+    let Record {
+        next,
+        region,
+        shift,
+        count,
+    } = walk.planned;
     [
         walk.number,
-        planned.next,
-        cast_unsigned(left),
-        cast_unsigned(top),
+        next,
+        cast_unsigned(region.left),
+        cast_unsigned(region.top),
         region.width,
         region.height,
         shift.x,
         shift.y,
-        planned.count,
+        count,
         walk.index,
         walk.links,
     ]

@@ -17,8 +17,8 @@ fn put_line(visit: FileVisit, out: &mut [u8], at: usize) -> usize
 {
     let second = text::number(visit.number, b' ', out, at);
     let third = text::number(visit.index, b' ', out, second);
-    let fourth = text::signed_number(visit.x, b' ', out, third);
-    text::signed_number(visit.y, b'\n', out, fourth)
+    let fourth = text::number(visit.x, b' ', out, third);
+    text::number(visit.y, b'\n', out, fourth)
 }
 
 // The lines to come from a walk, each while the longest line has room; hands back where they end.

@@ -1,48 +1,38 @@
--- A call with a pair tests the words first. Where the number of that test is not 0 the call is refused under it; where it is 0 the call goes on.
--- Assumes nothing.
-use mathlib.Core.Path.{◌≡◌, refl, sym, ap, ◌∙◌}
-use mathlib.Core.Bool.{Bool, true, false, not}
-use mathlib.Core.Logic.{◌≢◌}
+-- A call that loads a pair first: where the words are refused so is the call, and else it comes to what is made of the matrices. Assumes nothing.
+use mathlib.Core.Path.{◌≡◌, sym, ap, ◌∙◌}
 use mathlib.Core.List.{List, [], ◌∷◌}
 use Prim.Native.Nat.{ℕ}
-use native.Mathlib.Omega.{arith}
-use lib.Dec.{eqb}
-use lib.ListN.{length}
-use Rattle.refusal.specs.Outcome.{Outcome, accepted, refused, first, then}
-use Rattle.refusal.proofs.First.{then-accepted, then-refused}
+use Rattle.std.specs.Prelude.{Result, Ok, Err}
+use Rattle.refusal.specs.Outcome.{Outcome, accepted, first, then}
+use Rattle.refusal.specs.Refusal.{of_refusal, of_result}
+use Rattle.refusal.specs.declared.Refusal.{Refusal}
+use Rattle.refusal.proofs.First.{then-first, then-accepted}
+use Rattle.refusal.proofs.Results.{stops, passes, gives}
 use Rattle.plan.specs.declared.pair.Plan.{Plan}
-use Rattle.plan.specs.Pair.{load_outcome, loaded}
-use Rattle.answers.specs.Answers.{answer_number}
+use Rattle.plan.specs.Pair.{not_a_pair, load_outcome, loaded, plan_load_outcome}
 
--- loading, by its one test
-abbrev tested : Bool → Outcome Unit
-tested b = first (record { number = 1; holds = b } ∷ []) (accepted tt)
+module _ (words : List ℕ) (r : Result Plan Refusal) (is : of_result (λ P. P) r ≡ plan_load_outcome words) {A : Type 0} where
+  after_test : (after : Outcome A) → then (load_outcome words) after ≡ first (not_a_pair words ∷ []) after
+  after_test after =
+      then-first (not_a_pair words ∷ []) (accepted tt) after
+      ∙ ap (first (not_a_pair words ∷ [])) (then-accepted after (λ i. accepted tt))
 
-test-refused : (b : Bool) {n : ℕ} → n ≡ answer_number (tested b) → n ≢ 0 → tested b ≡ refused n []
-unfolding first
-test-refused true is some = ap (λ (k : ℕ). refused k []) (sym is)
-test-refused false is some = absurd (some is)
+  pub pair_stops : (why : Refusal) → r ≡ Err why → (after : Outcome A) → of_refusal why ≡ then (load_outcome words) after
+  pair_stops why was after = stops (λ P. P) (not_a_pair words ∷ []) (loaded words) r is why was after ∙ sym (after_test after)
 
-test-accepted : (b : Bool) {n : ℕ} → n ≡ answer_number (tested b) → n ≡ 0 → tested b ≡ accepted tt
-unfolding first
-test-accepted true is none = absurd (omega arith)
-test-accepted false is none = refl
+  pub pair_gives : (P : Plan) → r ≡ Ok P → (make : Plan → Outcome A) → make P ≡ then (load_outcome words) (make (loaded words))
+  pair_gives P was make =
+      ap make (gives (λ P. P) (not_a_pair words ∷ []) (loaded words) r is P was)
+      ∙ sym (after_test (make (loaded words)) ∙ passes (λ P. P) (not_a_pair words ∷ []) (loaded words) r is P was _)
 
-module _ (words : List ℕ) {n : ℕ} (is : n ≡ answer_number (load_outcome words)) where
-  pub load_refused : n ≢ 0 → load_outcome words ≡ refused n []
-  load_refused = test-refused (not (eqb (length words) 64)) is
+-- loading by itself
+module _ (words : List ℕ) (r : Result Plan Refusal) (is : of_result (λ P. P) r ≡ plan_load_outcome words) where
+  pub load_stops : (why : Refusal) → r ≡ Err why → load_outcome words ≡ of_refusal why
+  load_stops why was = sym (stops (λ P. P) (not_a_pair words ∷ []) (loaded words) r is why was (accepted tt))
 
-  pub load_accepted : n ≡ 0 → load_outcome words ≡ accepted tt
-  load_accepted = test-accepted (not (eqb (length words) 64)) is
+  module _ (P : Plan) (was : r ≡ Ok P) where
+    pub load_passes : load_outcome words ≡ accepted tt
+    load_passes = passes (λ P. P) (not_a_pair words ∷ []) (loaded words) r is P was (accepted tt)
 
-  module _ {A : Type 0} (after : Outcome A) where
-    pub stops : n ≢ 0 → then (load_outcome words) after ≡ refused n []
-    stops some = then-refused after (load_refused some)
-
-    pub goes_on : n ≡ 0 → then (load_outcome words) after ≡ after
-    goes_on none = then-accepted after (load_accepted none)
-
-  -- a call comes to what was made of the loaded matrices
-  pub gives : n ≡ 0 → {A : Type 0} (make : Plan → Outcome A) {P : Plan} {o : Outcome A} → P ≡ loaded words → o ≡ make P
-      → then (load_outcome words) (make (loaded words)) ≡ o
-  gives none make plan made = goes_on _ none ∙ sym (made ∙ ap make plan)
+    pub load_gives : P ≡ loaded words
+    load_gives = gives (λ P. P) (not_a_pair words ∷ []) (loaded words) r is P was

@@ -5,6 +5,7 @@ use Rattle.net.specs.Run.{Visit}
 use Rattle.refusal.specs.Outcome.{Outcome, then, granted}
 use Rattle.word.specs.Index.{index_count}
 use Rattle.plan.specs.declared.points.Scramble.{Scramble}
+use Rattle.plan.specs.declared.walks.Visit.{Visit as VisitCode}
 use Rattle.plan.specs.Pair.{sequence, scramble_of, standard_pair, load_outcome, loaded}
 use Rattle.plan.specs.Calls.{point_outcome}
 use Rattle.plan.specs.Fill.{fill_outcome, filled, Buffers}
@@ -12,7 +13,6 @@ use Rattle.plan.specs.Walk.{step_outcome}
 use Rattle.stratify.specs.Answers.{query_outcome}
 use Rattle.stratify.specs.Overview.{overview_outcome}
 use Rattle.unit.specs.declared.pairs.Singles.{Singles}
-use Rattle.unit.specs.declared.steps.SinglesVisit.{SinglesVisit}
 use Rattle.unit.specs.Singles.{singles_outcome, singles_step_outcome}
 
 -- what two shift words and the bytes of flips make
@@ -45,7 +45,7 @@ abbrev pub two_singles : Float → Float → Singles
 two_singles x y = record { x = x; y = y }
 
 -- the same step with the point of its visit as two singles
-abbrev pub pair_singles_step_outcome : List ℕ → Scramble → (next left : ℕ) → Outcome (Stepped SinglesVisit)
+abbrev pub pair_singles_step_outcome : List ℕ → Scramble → (next left : ℕ) → Outcome (Stepped (VisitCode Singles))
 pair_singles_step_outcome words s next left =
     then (load_outcome words) (singles_step_outcome (loaded words) s (record { next = next; left = left }))
 

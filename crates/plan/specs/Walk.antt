@@ -28,6 +28,7 @@ of_walk w = record { next = w.next; left = w.left }
 abbrev pub of_visit : VisitCode Point → Visit
 of_visit v = record { index = v.index; x = v.at.x; y = v.at.y }
 
-abbrev pub of_given : Option (VisitCode Point) → Answer Visit
-of_given (Some v) = visited (of_visit v)
-of_given None = ended
+-- what a step gives, its visit read by f
+abbrev pub answer_of : {A B : Type 0} → (A → B) → Option A → Answer B
+answer_of f (Some v) = visited (f v)
+answer_of f None = ended

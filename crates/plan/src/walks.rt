@@ -4,7 +4,7 @@ ghost use Rattle.refusal.specs.Outcome.{part_left, through};
 ghost use Rattle.refusal.specs.Refusal.{of_result};
 ghost use Rattle.word.specs.Index.{index_count};
 ghost use Rattle.plan.specs.Pair.{scramble_lent};
-ghost use Rattle.plan.specs.Walk.{open_outcome, step_outcome, of_walk, of_given};
+ghost use Rattle.plan.specs.Walk.{open_outcome, step_outcome, of_walk, of_visit, answer_of};
 
 use crate::{LentScramble, Plan, Point};
 use refusal::Refusal;
@@ -41,7 +41,7 @@ impl Walk {
     // The next visit, if one is left, for any walk, also one made by hand. A refused step leaves the walk as it was, and bad flips are refused
     // also where the walk has ended. At the last index a walk ends where it is, since there is no next one.
     pub fn step(&mut self, plan: Plan, lent: LentScramble) -> Result<Option<Visit<Point>>, Refusal>
-        ensures step { of_result of_given result
+        ensures step { of_result (answer_of of_visit) result
             ≡ through (λ t. t.answer) (step_outcome plan (scramble_lent lent.entry) (of_walk self.old)) }
         ensures walk { of_walk self.new
             ≡ part_left (step_outcome plan (scramble_lent lent.entry) (of_walk self.old)) (λ t. t.walk) (of_walk self.old) }

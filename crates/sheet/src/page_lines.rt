@@ -33,8 +33,8 @@ fn put_visit(visit: FileVisit, out: &mut [u8], at: usize) -> usize
 {
     let second = text::right_number(visit.number, 4, b' ', out, at);
     let third = text::right_number(visit.index, 4, b' ', out, second);
-    let fourth = text::right_signed_number(visit.x, 8, b' ', out, third);
-    text::right_signed_number(visit.y, 8, b'\n', out, fourth)
+    let fourth = text::right_number(visit.x, 8, b' ', out, third);
+    text::right_number(visit.y, 8, b'\n', out, fourth)
 }
 
 // The line of the visit that a step gave, or a blank one where it gave none.

@@ -3,10 +3,12 @@
 #![tactic(auto)]
 
 mod reading;
+mod texts;
 mod transfers;
 mod words;
 mod writing;
 
 pub use reading::{FILE_ROOM, read_all};
+pub use texts::write_text;
 pub use words::say_ending;
-pub use writing::{Ending, exit_code, write_piece};
+pub use writing::{exit_code, write_piece};

@@ -1,8 +1,6 @@
 // What is said on standard error, which `error` stands for. Where it cannot be said, nobody hears it, and no text depends on that.
 ghost use Rattle.std.specs.Prelude.{◌≤◌, length};
 
-use crate::writing::Ending;
-use refusal::Judgement;
 use region_file::Link;
 use std::io::{Cursor, Print, Write};
 use std::{fmt, io, str};
@@ -51,8 +49,8 @@ fn failed(error: &impl Print, what: &[u8], why: io::Error) {
 // Says how it ended, for whoever reads standard error alone: that the text is cut short, in the program's own words and the system's, and that the
 // file is refused. (A text is cut where a write failed, and the system's reason is that of the write. Where a write took nothing and did not fail,
 // the reason is the library's; Linux has no such write.)
-pub fn say_ending(error: &impl Print, ending: Ending, cannot_write: &[u8], file: &[u8]) {
-    if let Ending::Cut(why) = ending {
+pub fn say_ending(error: &impl Print, written: io::Result<u64>, cannot_write: &[u8], file: &[u8]) {
+    if let Err(why) = written {
         failed(error, cannot_write, why);
     }
     say_refusal(error, file);
@@ -61,10 +59,8 @@ pub fn say_ending(error: &impl Print, ending: Ending, cannot_write: &[u8], file:
 // That the file is refused, and at which link.
 fn say_refusal(error: &impl Print, file: &[u8]) {
     let judged = region_file::judge_link(file);
-    let link = judged.link;
-    let judgement = judged.judgement;
-    if let Judgement::Refused(why) = judgement {
-        refused(error, why.number(), link);
+    if let Err(why) = judged.judgement {
+        refused(error, why.number(), judged.link);
     }
 }
 

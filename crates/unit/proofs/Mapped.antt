@@ -15,7 +15,8 @@ use Rattle.plan.specs.declared.pair.Plan.{Plan}
 use Rattle.plan.specs.declared.points.Scramble.{Scramble}
 use Rattle.plan.specs.Pair.{sequence}
 use Rattle.plan.specs.Walk.{step_outcome}
-use Rattle.unit.specs.declared.steps.SinglesVisit.{SinglesVisit}
+use Rattle.plan.specs.declared.walks.Visit.{Visit as VisitCode}
+use Rattle.unit.specs.declared.pairs.Singles.{Singles}
 use Rattle.unit.specs.Singles.{singles_of, singles_step_outcome}
 
 abbrev map_answer : {A B : Type 0} → (A → B) → Answer A → Answer B
@@ -38,40 +39,40 @@ step-mapped f visit-of last s (suc l) = go (lt_or_ge last s) (eq_or_ne s last)
         let less : s < last = omega arith in
         ap (mapped f) (step-more visit-of last s l less) ∙ sym (step-more (λ i. f (visit-of i)) last s l less)
 
-abbrev as_singles : Visit → SinglesVisit
+abbrev as_singles : Visit → VisitCode Singles
 as_singles v = record { index = v.index; at = singles_of (v.x, v.y) }
 
 -- an answer with its visit as singles
-abbrev pub singles_answer : Outcome (Answer Visit) → Outcome (Answer SinglesVisit)
+abbrev pub singles_answer : Outcome (Answer Visit) → Outcome (Answer (VisitCode Singles))
 singles_answer = through (map_answer as_singles)
 
 -- the step of a plan with its visit as singles
 outcome-mapped : (P : Plan) (s : Scramble) (w : Walk) → through (mapped as_singles) (step_outcome P s w) ≡ singles_step_outcome P s w
 outcome-mapped P s w =
     through-first (mapped as_singles) (flips_tests s.flips) (accepted (step (visit (sequence P s)) last_index w))
-    ∙ ap (λ (t : Stepped SinglesVisit). first (flips_tests s.flips) (accepted t))
+    ∙ ap (λ (t : Stepped (VisitCode Singles)). first (flips_tests s.flips) (accepted t))
     (step-mapped as_singles (visit (sequence P s)) last_index w.next w.left)
 
 answer-mapped : (o : Outcome (Stepped Visit)) → singles_answer (through (λ (t : Stepped Visit). t.answer) o)
-    ≡ through (λ (t : Stepped SinglesVisit). t.answer) (through (mapped as_singles) o)
+    ≡ through (λ (t : Stepped (VisitCode Singles)). t.answer) (through (mapped as_singles) o)
 answer-mapped (accepted t) = refl
 answer-mapped (refused n vs) = refl
 
 walk-mapped : (o : Outcome (Stepped Visit)) (w : Walk)
-    → part_left o (λ (t : Stepped Visit). t.walk) w ≡ part_left (through (mapped as_singles) o) (λ (t : Stepped SinglesVisit). t.walk) w
+    → part_left o (λ (t : Stepped Visit). t.walk) w ≡ part_left (through (mapped as_singles) o) (λ (t : Stepped (VisitCode Singles)). t.walk) w
 walk-mapped (accepted t) w = refl
 walk-mapped (refused n vs) w = refl
 
 -- the two promises of a return: the answer is the plan's as singles, and the walk the plan's
-pub singles_step : (P : Plan) (s : Scramble) (w : Walk) {answer : Outcome (Answer Visit)} {given : Outcome (Answer SinglesVisit)} {after : Walk}
+pub singles_step : (P : Plan) (s : Scramble) (w : Walk) {answer : Outcome (Answer Visit)} {given : Outcome (Answer (VisitCode Singles))} {after : Walk}
     → given ≡ singles_answer answer
     → answer ≡ through (λ (t : Stepped Visit). t.answer) (step_outcome P s w)
     → after ≡ part_left (step_outcome P s w) (λ (t : Stepped Visit). t.walk) w
-    → (given ≡ through (λ (t : Stepped SinglesVisit). t.answer) (singles_step_outcome P s w))
-    × (after ≡ part_left (singles_step_outcome P s w) (λ (t : Stepped SinglesVisit). t.walk) w)
+    → (given ≡ through (λ (t : Stepped (VisitCode Singles)). t.answer) (singles_step_outcome P s w))
+    × (after ≡ part_left (singles_step_outcome P s w) (λ (t : Stepped (VisitCode Singles)). t.walk) w)
 singles_step P s w is told walked = (
   is ∙ ap singles_answer told ∙ answer-mapped (step_outcome P s w)
-      ∙ ap (through (λ (t : Stepped SinglesVisit). t.answer)) (outcome-mapped P s w),
+      ∙ ap (through (λ (t : Stepped (VisitCode Singles)). t.answer)) (outcome-mapped P s w),
   walked ∙ walk-mapped (step_outcome P s w) w
-      ∙ ap (λ (o : Outcome (Stepped SinglesVisit)). part_left o (λ t. t.walk) w) (outcome-mapped P s w),
+      ∙ ap (λ (o : Outcome (Stepped (VisitCode Singles))). part_left o (λ t. t.walk) w) (outcome-mapped P s w),
 )

@@ -8,5 +8,5 @@ mod pairs;
 mod steps;
 
 pub use numbers::{Precision, Unit, coordinate, double, single};
-pub use pairs::{PointedSingles, Singles, singles_at, singles_of};
-pub use steps::{SinglesStep, SinglesStepped, SinglesVisit, step_singles};
+pub use pairs::{Singles, singles_at};
+pub use steps::step_singles;

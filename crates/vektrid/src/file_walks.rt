@@ -4,7 +4,8 @@ ghost use Rattle.visits.specs.Visits.{visits_outcome};
 ghost use Rattle.answers.specs.Answers.{answer_number};
 ghost use Rattle.file_words.specs.FileWalks.{visits_by_words, Opens, all_but_first, visit_given, visit_words, visit_left};
 
-use file_words::FileWalkWords;
+use file_words::{FileWalkWords, walk_of, words_of};
+use visits::FileWalk;
 
 // The walk before the first visit of a file.
 #[unsafe(no_mangle)]
@@ -12,10 +13,13 @@ pub extern "C" fn vektrid_file_walk_open(file: &[u8], walk: &mut FileWalkWords) 
     ensures answer { result ≡ answer_number (visits_outcome file.now) }
     ensures walk { Opens file.now (visits_outcome file.now) walk.old walk.new }
 {
-    let opened = file_words::open_words(file, *walk);
-    let words = opened.walk;
-    *walk = words;
-    opened.answer
+    match FileWalk::open(file) {
+        Err(why) => why.number(),
+        Ok(start) => {
+            *walk = words_of(start);
+            0
+        }
+    }
 }
 
 // The next visit, if there is one, and the walk past it.
@@ -35,14 +39,17 @@ pub extern "C" fn vektrid_file_walk_step(
         ≡ visit_left (visits_by_words file.now walk.old)
         (visit_words record_number.old index.old at_x.old at_y.old) }
 {
-    let stepped = file_words::step_words(file, *walk, *record_number, *index, *at_x, *at_y);
-    let after = stepped.walk;
-    *walk = after;
-    *given = stepped.given;
-    *record_number = stepped.number;
-    *index = stepped.index;
-    let x = stepped.x;
-    let y = stepped.y;
-    *at_x = x;
-    *at_y = y;
+    let mut own = walk_of(*walk);
+    let visited = own.step(file);
+    *walk = words_of(own);
+    match visited {
+        None => *given = 0,
+        Some(visit) => {
+            *given = 1;
+            *record_number = visit.number;
+            *index = visit.index;
+            *at_x = visit.x;
+            *at_y = visit.y;
+        }
+    }
 }

@@ -3,9 +3,8 @@ ghost use Rattle.std.specs.Prelude.{◌≡◌};
 ghost use Rattle.answers.specs.Answers.{answer_number};
 ghost use Rattle.pair_calls.specs.Calls.{scramble_words, pair_fill_outcome, pair_filled};
 
+use crate::scrambles::scramble_of_words;
 use answers::number_of;
-use pair_calls::{pair_answer, pair_plan};
-use plan::Shift;
 use word::Index;
 
 // The points of the indexes from start on, into every word of both buffers.
@@ -30,22 +29,6 @@ pub extern "C" fn vektrid_fill(
         ≡ (pair_filled words.now (scramble_words shift_x shift_y flips_x.now flips_y.now) start
         xs.old ys.old).y }
 {
-    let answer = pair_answer(words);
-    if answer != 0 {
-        return answer;
-    }
-    let plan = pair_plan(words);
-    let filled = plan::fill(
-        plan,
-        Shift {
-            x: shift_x,
-            y: shift_y,
-        },
-        flips_x,
-        flips_y,
-        start,
-        xs,
-        ys,
-    );
-    number_of(filled)
+    let lent = scramble_of_words(shift_x, shift_y, flips_x, flips_y);
+    number_of(pair_calls::fill(words, lent, start, xs, ys))
 }

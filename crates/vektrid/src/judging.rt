@@ -5,7 +5,6 @@ ghost use Rattle.region_file.specs.Judge.{judge_outcome, judge_stop, no_further_
 ghost use Rattle.answers.specs.Answers.{answer_number};
 
 use answers::number_of;
-use refusal::Judgement;
 
 // Whether a file is accepted: 0, or the number of the refusal.
 #[unsafe(no_mangle)]
@@ -16,6 +15,7 @@ pub extern "C" fn vektrid_judge(file: &[u8]) -> u32
 }
 
 // The same judgement, and of a refused file also the link at which it stopped.
+#[tactic(auto, unfolding(refusal::specs::Outcome::granted))]
 #[unsafe(no_mangle)]
 pub extern "C" fn vektrid_judge_link(file: &[u8], holder: &mut u32, named: &mut u32) -> u32
     ensures answer { result ≡ answer_number (judge_outcome no_further_tests file.now) }
@@ -27,13 +27,11 @@ pub extern "C" fn vektrid_judge_link(file: &[u8], holder: &mut u32, named: &mut 
         (judge_stop no_further_tests file.now).named }
 {
     let judged = region_file::judge_link(file);
-    let link = judged.link;
-    let judgement = judged.judgement;
-    match judgement {
-        Judgement::Accepted => 0,
-        Judgement::Refused(why) => {
-            *holder = link.holder;
-            *named = link.named;
+    match judged.judgement {
+        Ok(()) => 0,
+        Err(why) => {
+            *holder = judged.link.holder;
+            *named = judged.link.named;
             why.number()
         }
     }

@@ -14,6 +14,7 @@ mod pairs;
 mod points;
 mod positions;
 mod query;
+mod scrambles;
 mod sheets;
 mod units;
 mod walks;

@@ -5,7 +5,7 @@ ghost use Rattle.listing.specs.Listing.{listing};
 ghost use Rattle.listing.specs.Cursor.{to_come, ListingPiece};
 ghost use Rattle.cursor_words.specs.Cursors.{cursor_of};
 
-use cursor_words::{CursorWords, words_of_cursor};
+use cursor_words::{CursorWords, cursor_of, words_of_cursor};
 use listing::Cursor;
 
 // The start of a file's listing.
@@ -13,9 +13,7 @@ use listing::Cursor;
 pub extern "C" fn vektrid_listing_open(file: &[u8], cursor: &mut CursorWords)
     ensures { to_come file.now (cursor_of cursor.new) ≡ listing file.now }
 {
-    let start = Cursor::open(file);
-    let words = words_of_cursor(start);
-    *cursor = words;
+    *cursor = words_of_cursor(Cursor::open(file));
 }
 
 // The next piece, and the cursor past it.
@@ -30,8 +28,8 @@ pub extern "C" fn vektrid_listing_piece(
         (take result out.new) (length out.new) }
     ensures rest { drop result out.new ≡ drop result out.old }
 {
-    let piece = cursor_words::piece_words(file, *cursor, out);
-    let past = piece.cursor;
-    *cursor = past;
-    piece.len
+    let mut own = cursor_of(*cursor);
+    let len = own.piece(file, out);
+    *cursor = words_of_cursor(own);
+    len
 }

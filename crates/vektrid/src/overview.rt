@@ -4,13 +4,13 @@ ghost use Rattle.refusal.specs.Outcome.{part_left};
 ghost use Rattle.answers.specs.Answers.{answer_number, value_left};
 ghost use Rattle.pair_calls.specs.Calls.{scramble_words, pair_overview_outcome};
 
+use crate::scrambles::scramble_of_words;
 use answers::{least_left, number_of};
-use pair_calls::{pair_answer, pair_plan};
-use plan::Shift;
 use stratify::Block;
 use word::Index;
 
 // The index of a block in each of many cells of one shape; 3 gives the shape's least index.
+#[tactic(auto, using(answers::proofs::Outcomes::number_then, answers::proofs::Outcomes::value_then))]
 #[unsafe(no_mangle)]
 pub extern "C" fn vektrid_overview(
     words: &[u32],
@@ -40,27 +40,8 @@ pub extern "C" fn vektrid_overview(
         (pair_overview_outcome words.now (scramble_words shift_x shift_y flips_x.now flips_y.now) level m
         a block columns.now rows.now answers.old) 2 j.old }
 {
-    let answer = pair_answer(words);
-    if answer != 0 {
-        return answer;
-    }
-    let plan = pair_plan(words);
-    let judged = stratify::overview(
-        plan,
-        Shift {
-            x: shift_x,
-            y: shift_y,
-        },
-        flips_x,
-        flips_y,
-        level,
-        m,
-        a,
-        block,
-        columns,
-        rows,
-        answers,
-    );
+    let lent = scramble_of_words(shift_x, shift_y, flips_x, flips_y);
+    let judged = pair_calls::overview(words, lent, level, m, a, block, columns, rows, answers);
     *j = least_left(judged, *j);
     number_of(judged)
 }

@@ -6,7 +6,8 @@ ghost use Rattle.plan.specs.Calls.{point_outcome};
 ghost use Rattle.answers.specs.Answers.{answer_number};
 ghost use Rattle.pair_calls.specs.Calls.{scramble_words, pair_point_outcome};
 
-use plan::{Plan, Pointed, Shift};
+use crate::scrambles::scramble_of_words;
+use plan::Plan;
 use word::Index;
 
 // The point of an index, for any pair.
@@ -31,10 +32,15 @@ pub extern "C" fn vektrid_point(
         ≡ part_left (pair_point_outcome words.now
         (scramble_words shift_x shift_y flips_x.now flips_y.now) index) (λ p. p.1) y.old }
 {
-    let found = pair_calls::point(words, shift_x, shift_y, flips_x, flips_y, index, *x, *y);
-    *x = found.x;
-    *y = found.y;
-    found.answer
+    let lent = scramble_of_words(shift_x, shift_y, flips_x, flips_y);
+    match pair_calls::point(words, lent, index) {
+        Err(why) => why.number(),
+        Ok(at) => {
+            *x = at.x;
+            *y = at.y;
+            0
+        }
+    }
 }
 
 // The point of an index of the standard pair, by its own faster way.
@@ -58,14 +64,10 @@ pub extern "C" fn vektrid_standard_point(
         ≡ part_left (point_outcome standard_pair
         (scramble_words shift_x shift_y flips_x.now flips_y.now) index) (λ p. p.1) y.old }
 {
-    let shift = Shift {
-        x: shift_x,
-        y: shift_y,
-    };
-    let pointed = Plan::standard_point(shift, flips_x, flips_y, index);
-    match pointed {
-        Pointed::Refused(why) => why.number(),
-        Pointed::At(point) => {
+    let lent = scramble_of_words(shift_x, shift_y, flips_x, flips_y);
+    match Plan::standard_point(lent, index) {
+        Err(why) => why.number(),
+        Ok(point) => {
             *x = point.x;
             *y = point.y;
             0

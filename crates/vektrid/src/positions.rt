@@ -4,7 +4,7 @@ ghost use Rattle.refusal.specs.Outcome.{part_left};
 ghost use Rattle.answers.specs.Answers.{answer_number};
 ghost use Rattle.vektrid.specs.Regions.{region_position_outcome};
 
-use stage::{Field, Placed, Region};
+use stage::{Field, Region};
 
 // Where the point with coordinate words x and y lies in a region, for a reader's field.
 #[unsafe(no_mangle)]
@@ -36,14 +36,11 @@ pub extern "C" fn vektrid_position(
         width: field_width,
         height: field_height,
     };
-    let placed = region.position(field, x, y);
-    match placed {
-        Placed::Refused(why) => why.number(),
-        Placed::At(at) => {
-            let x_there = at.x;
-            let y_there = at.y;
-            *at_x = x_there;
-            *at_y = y_there;
+    match region.position(field, x, y) {
+        Err(why) => why.number(),
+        Ok(at) => {
+            *at_x = at.x;
+            *at_y = at.y;
             0
         }
     }

@@ -4,6 +4,8 @@ ghost use Rattle.refusal.specs.Outcome.{part_left};
 ghost use Rattle.answers.specs.Answers.{answer_number, value_left};
 ghost use Rattle.pair_calls.specs.Calls.{scramble_words, pair_query_outcome};
 
+use crate::scrambles::scramble_of_words;
+use answers::least_left;
 use stratify::Block;
 use word::Index;
 
@@ -35,10 +37,15 @@ pub extern "C" fn vektrid_query(
         ≡ value_left (pair_query_outcome words.now
         (scramble_words shift_x shift_y flips_x.now flips_y.now) level m a column row block) 2 j.old }
 {
-    let found = pair_calls::query(
-        words, shift_x, shift_y, flips_x, flips_y, level, m, a, column, row, block, *index, *j,
-    );
-    *index = found.index;
-    *j = found.j;
-    found.answer
+    let lent = scramble_of_words(shift_x, shift_y, flips_x, flips_y);
+    match pair_calls::query(words, lent, level, m, a, column, row, block) {
+        Err(why) => {
+            *j = least_left(Err(why), *j);
+            why.number()
+        }
+        Ok(found) => {
+            *index = found;
+            0
+        }
+    }
 }

@@ -5,7 +5,7 @@ ghost use Rattle.sheet.specs.Sheet.{sheet};
 ghost use Rattle.sheet.specs.Cursor.{sheet_to_come, SheetPiece};
 ghost use Rattle.cursor_words.specs.SheetCursors.{sheet_cursor_of};
 
-use cursor_words::{SheetCursorWords, words_of_sheet_cursor};
+use cursor_words::{SheetCursorWords, sheet_cursor_of, words_of_sheet_cursor};
 use sheet::Cursor;
 
 // The start of a file's sheet.
@@ -13,9 +13,7 @@ use sheet::Cursor;
 pub extern "C" fn vektrid_sheet_open(file: &[u8], cursor: &mut SheetCursorWords)
     ensures { sheet_to_come file.now (sheet_cursor_of cursor.new) ≡ sheet file.now }
 {
-    let start = Cursor::open(file);
-    let words = words_of_sheet_cursor(start);
-    *cursor = words;
+    *cursor = words_of_sheet_cursor(Cursor::open(file));
 }
 
 // The next piece, and the cursor past it.
@@ -30,8 +28,8 @@ pub extern "C" fn vektrid_sheet_piece(
         (take result out.new) (length out.new) }
     ensures rest { drop result out.new ≡ drop result out.old }
 {
-    let piece = cursor_words::sheet_piece_words(file, *cursor, out);
-    let past = piece.cursor;
-    *cursor = past;
-    piece.len
+    let mut own = sheet_cursor_of(*cursor);
+    let len = own.piece(file, out);
+    *cursor = words_of_sheet_cursor(own);
+    len
 }

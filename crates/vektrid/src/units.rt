@@ -5,6 +5,8 @@ ghost use Rattle.unit.specs.Word.{double, single};
 ghost use Rattle.answers.specs.Answers.{answer_number, step_words, left_in};
 ghost use Rattle.pair_calls.specs.Calls.{scramble_words, pair_singles_outcome, two_singles, pair_singles_step_outcome};
 
+use crate::scrambles::scramble_of_words;
+use plan::Walk;
 use word::Index;
 
 // A word divided by 2^32, exactly.
@@ -45,10 +47,15 @@ pub extern "C" fn vektrid_point_singles(
         ≡ part_left (pair_singles_outcome words.now
         (scramble_words shift_x shift_y flips_x.now flips_y.now) index) (λ p. p.y) y.old }
 {
-    let found = pair_calls::point_singles(words, shift_x, shift_y, flips_x, flips_y, index, *x, *y);
-    *x = found.x;
-    *y = found.y;
-    found.answer
+    let lent = scramble_of_words(shift_x, shift_y, flips_x, flips_y);
+    match pair_calls::point_singles(words, lent, index) {
+        Err(why) => why.number(),
+        Ok(at) => {
+            *x = at.x;
+            *y = at.y;
+            0
+        }
+    }
 }
 
 // A step of a walk with the point of its visit as two singles.
@@ -76,14 +83,26 @@ pub extern "C" fn vektrid_walk_step_singles(
         (step_words next.old left.old given.old index.old
         (two_singles x.old y.old)) }
 {
-    let stepped = pair_calls::step_singles(
-        words, shift_x, shift_y, flips_x, flips_y, *next, *left, *given, *index, *x, *y,
-    );
-    *next = stepped.next;
-    *left = stepped.left;
-    *given = stepped.given;
-    *index = stepped.index;
-    *x = stepped.x;
-    *y = stepped.y;
-    stepped.answer
+    let lent = scramble_of_words(shift_x, shift_y, flips_x, flips_y);
+    let mut walk = Walk {
+        next: *next,
+        left: *left,
+    };
+    let stepped = pair_calls::step_singles(words, &mut walk, lent);
+    *next = walk.next;
+    *left = walk.left;
+    match stepped {
+        Err(why) => why.number(),
+        Ok(None) => {
+            *given = 0;
+            0
+        }
+        Ok(Some(visit)) => {
+            *given = 1;
+            *index = visit.index;
+            *x = visit.at.x;
+            *y = visit.at.y;
+            0
+        }
+    }
 }

@@ -6,7 +6,8 @@ ghost use Rattle.plan.specs.Walk.{open_outcome};
 ghost use Rattle.answers.specs.Answers.{answer_number, step_words, left_in};
 ghost use Rattle.pair_calls.specs.Calls.{scramble_words, pair_step_outcome};
 
-use plan::{Opened, Walk};
+use crate::scrambles::scramble_of_words;
+use plan::Walk;
 use word::Index;
 
 // A walk over count visits from start on.
@@ -21,10 +22,9 @@ pub extern "C" fn vektrid_walk_open(
     ensures next { next.new ≡ part_left (open_outcome index_count start count) (λ w. w.next) next.old }
     ensures left { left.new ≡ part_left (open_outcome index_count start count) (λ w. w.left) left.old }
 {
-    let opened = Walk::open(start, count);
-    match opened {
-        Opened::Refused(why) => why.number(),
-        Opened::Open(walk) => {
+    match Walk::open(start, count) {
+        Err(why) => why.number(),
+        Ok(walk) => {
             *next = walk.next;
             *left = walk.left;
             0
@@ -56,14 +56,26 @@ pub extern "C" fn vektrid_walk_step(
         (λ v. v.index) (λ v. (v.x, v.y))
         (step_words next.old left.old given.old index.old (x.old, y.old)) }
 {
-    let stepped = pair_calls::step(
-        words, shift_x, shift_y, flips_x, flips_y, *next, *left, *given, *index, *x, *y,
-    );
-    *next = stepped.next;
-    *left = stepped.left;
-    *given = stepped.given;
-    *index = stepped.index;
-    *x = stepped.x;
-    *y = stepped.y;
-    stepped.answer
+    let lent = scramble_of_words(shift_x, shift_y, flips_x, flips_y);
+    let mut walk = Walk {
+        next: *next,
+        left: *left,
+    };
+    let stepped = pair_calls::step(words, &mut walk, lent);
+    *next = walk.next;
+    *left = walk.left;
+    match stepped {
+        Err(why) => why.number(),
+        Ok(None) => {
+            *given = 0;
+            0
+        }
+        Ok(Some(visit)) => {
+            *given = 1;
+            *index = visit.index;
+            *x = visit.at.x;
+            *y = visit.at.y;
+            0
+        }
+    }
 }

@@ -19,7 +19,7 @@ room : (c : goal.Else-not-has_room) → leb (c.args.at + longest_refusal) (lengt
 room c = sym c.has_room.ensures ∙ c.if-not-has_room.false
 
 pub returns : goal.returns
-unfolding refused_text
+unfolding refused_text number_text
 returns c =
     let a = c.args in
     let d = a.out.now in

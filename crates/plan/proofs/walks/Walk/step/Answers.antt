@@ -13,7 +13,7 @@ use Rattle.word.specs.Index.{last_index}
 use Rattle.flips.specs.Load.{flips_tests}
 use Rattle.plan.specs.declared.points.Scramble.{Scramble}
 use Rattle.plan.specs.Pair.{sequence, scramble_lent}
-use Rattle.plan.specs.Walk.{of_walk, of_given, step_outcome}
+use Rattle.plan.specs.Walk.{of_walk, of_visit, answer_of, step_outcome}
 use Rattle.plan.proofs.Laws.{tells, step-refused, step_taken}
 use Rattle.plan.proofs.walks.Walk.step.Goals as goal
 use Rattle.plan.proofs.walks.Walk.step.Goals.{In_ok-scramble}
@@ -38,7 +38,7 @@ returns-in_err-scramble c =
     let stop = stops (λ t. t) (flips_tests s.flips) s c.load.result c.load.ensures why c.in_err-scramble.was
     (accepted (step (visit (sequence c.args.plan s)) last_index (of_walk c.args.self.now))) in
     let both = step-refused (of_walk c.args.self.now) stop in
-    record { step = ap (of_result of_given) back ∙ both.0; walk = both.1 }
+    record { step = ap (of_result (answer_of of_visit)) back ∙ both.0; walk = both.1 }
 
 pub returns-then-self-eq0 : goal.returns-then-self-eq0
 unfolding step

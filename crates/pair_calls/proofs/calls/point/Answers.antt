@@ -1,0 +1,20 @@
+-- `point`: refused where the words are, and else the point of their matrices.
+use mathlib.Core.Path.{◌≡◌, sym, ap, ◌∙◌}
+use borrow.Author.Rules.{rules}
+use Rattle.std.specs.Prelude.{Err}
+use Rattle.refusal.specs.Refusal.{of_result}
+use Rattle.plan.specs.Pair.{scramble_lent, of_point}
+use Rattle.plan.specs.Calls.{point_outcome}
+use Rattle.pair_calls.proofs.Loading.{pair_stops, pair_gives}
+use Rattle.pair_calls.proofs.calls.point.Goals as goal
+
+pub returns-in_err-plan : goal.returns-in_err-plan
+returns-in_err-plan c =
+    let back : c.from_residual.result ≡ Err c.in_err-plan.field-0.0 = search rules in
+    ap (of_result of_point) back ∙ pair_stops c.args.words.now c.load.result c.load.ensures _ c.in_err-plan.was _
+
+pub returns : goal.returns
+returns c =
+    let a = c.args in
+    c.point.ensures ∙ pair_gives a.words.now c.load.result c.load.ensures _ c.in_ok-plan.was
+    (λ P. point_outcome P (scramble_lent a.lent) a.index)
