@@ -20,7 +20,7 @@ use Rattle.visits.specs.FileWalk.{links_counted, visits_to_come, Gives}
 
 -- ---- steps
 
--- steps one after the other, each from the walk that the one before handed back
+-- steps one after the other, each from the walk that the one before left
 pub data Steps (file : List ℕ) : FileWalk → List (Option FileVisit) → FileWalk → Type 0 where
   no_step : (p : FileWalk) → Steps file p [] p
   first_step : (p q r : FileWalk) (s : Option FileVisit) (ss : List (Option FileVisit)) → Gives file p s q → Steps file q ss r
