@@ -18,3 +18,6 @@ module _ {A B : Type 0} (f : A → B) (ts : List Test) (b : B) (r : Result A Ref
 
     pub gives : f a ≡ b
     gives = sym (accepted-same (all_pass (accepted b) ts (sym is ∙ ap (of_result f) was)).1)
+
+-- all three, for calls of such a call
+pub ruleset tested = (stops, passes, gives)
