@@ -53,36 +53,38 @@ pub fn fill(
     plan::fill(plan, lent, start, xs, ys)
 }
 
-// The next visit of a walk, if one is left. A refused step leaves the walk as it was.
+// The next visit of a walk, or the end, together with the walk after it. A refused step hands the walk back as it was.
 pub fn step(
     words: &[u32],
-    walk: &mut Walk,
+    walk: Walk,
     lent: LentScramble,
-) -> Result<Option<Visit<Point>>, Refusal>
-    ensures step { of_result (answer_of of_visit) result
-        ≡ through (λ t. t.answer) (pair_step_outcome words.now (scramble_lent lent.entry) walk.old.next walk.old.left) }
-    ensures walk { of_walk walk.new
-        ≡ part_left (pair_step_outcome words.now (scramble_lent lent.entry) walk.old.next walk.old.left) (λ t. t.walk)
-        (of_walk walk.old) }
+) -> (Result<Option<Visit<Point>>, Refusal>, Walk)
+    ensures step { of_result (answer_of of_visit) result.0
+        ≡ through (λ t. t.answer) (pair_step_outcome words.now (scramble_lent lent.entry) walk.next walk.left) }
+    ensures walk { of_walk result.1
+        ≡ part_left (pair_step_outcome words.now (scramble_lent lent.entry) walk.next walk.left) (λ t. t.walk) (of_walk walk) }
 {
-    let plan = Plan::load(words)?;
-    walk.step(plan, lent)
+    match Plan::load(words) {
+        Ok(plan) => walk.step(plan, lent),
+        Err(why) => (Err(why), walk),
+    }
 }
 
 // The same with the point as two singles.
 pub fn step_singles(
     words: &[u32],
-    walk: &mut Walk,
+    walk: Walk,
     lent: LentScramble,
-) -> Result<Option<Visit<Singles>>, Refusal>
-    ensures step { of_result (answer_of (λ v. v)) result
-        ≡ through (λ t. t.answer) (pair_singles_step_outcome words.now (scramble_lent lent.entry) walk.old.next walk.old.left) }
-    ensures walk { of_walk walk.new
-        ≡ part_left (pair_singles_step_outcome words.now (scramble_lent lent.entry) walk.old.next walk.old.left) (λ t. t.walk)
-        (of_walk walk.old) }
+) -> (Result<Option<Visit<Singles>>, Refusal>, Walk)
+    ensures step { of_result (answer_of (λ v. v)) result.0
+        ≡ through (λ t. t.answer) (pair_singles_step_outcome words.now (scramble_lent lent.entry) walk.next walk.left) }
+    ensures walk { of_walk result.1
+        ≡ part_left (pair_singles_step_outcome words.now (scramble_lent lent.entry) walk.next walk.left) (λ t. t.walk) (of_walk walk) }
 {
-    let plan = Plan::load(words)?;
-    unit::step_singles(walk, plan, lent)
+    match Plan::load(words) {
+        Ok(plan) => unit::step_singles(walk, plan, lent),
+        Err(why) => (Err(why), walk),
+    }
 }
 
 // The one index of a block in a cell.

@@ -1,4 +1,4 @@
-// A walk over visits: each step gives the next visit, or the end, and moves the walk past it.
+// A walk over visits, stepped by value: a step hands back the visit or the end, together with the walk after it.
 ghost use Rattle.std.specs.Prelude.{◌≡◌};
 ghost use Rattle.refusal.specs.Outcome.{part_left, through};
 ghost use Rattle.refusal.specs.Refusal.{of_result};
@@ -38,26 +38,35 @@ impl Walk {
         })
     }
 
-    // The next visit, if one is left, for any walk, also one made by hand. A refused step leaves the walk as it was, and bad flips are refused
-    // also where the walk has ended. At the last index a walk ends where it is, since there is no next one.
-    pub fn step(&mut self, plan: Plan, lent: LentScramble) -> Result<Option<Visit<Point>>, Refusal>
-        ensures step { of_result (answer_of of_visit) result
-            ≡ through (λ t. t.answer) (step_outcome plan (scramble_lent lent.entry) (of_walk self.old)) }
-        ensures walk { of_walk self.new
-            ≡ part_left (step_outcome plan (scramble_lent lent.entry) (of_walk self.old)) (λ t. t.walk) (of_walk self.old) }
+    // The next visit, or the end, together with the walk after it, for any walk, also one made by hand. A refused step hands the walk back as it
+    // was, and bad flips are refused also where the walk has ended. At the last index a walk ends where it is, since there is no next one.
+    pub fn step(
+        self,
+        plan: Plan,
+        lent: LentScramble,
+    ) -> (Result<Option<Visit<Point>>, Refusal>, Walk)
+        ensures step { of_result (answer_of of_visit) result.0
+            ≡ through (λ t. t.answer) (step_outcome plan (scramble_lent lent.entry) (of_walk self)) }
+        ensures walk { of_walk result.1
+            ≡ part_left (step_outcome plan (scramble_lent lent.entry) (of_walk self)) (λ t. t.walk) (of_walk self) }
     {
-        let scramble = lent.load()?;
-        if self.left == 0 {
-            return Ok(None);
+        let Walk { next, left } = self;
+        let scramble = match lent.load() {
+            Ok(scramble) => scramble,
+            Err(why) => return (Err(why), self),
+        };
+        if left == 0 {
+            return (Ok(None), self);
         }
-        let index = self.next;
-        let at = plan.scrambled_point(scramble, index);
-        if index == LAST_INDEX {
-            self.left = 0;
-        } else {
-            self.next += 1;
-            self.left -= 1;
+        let at = plan.scrambled_point(scramble, next);
+        let visit = Visit { index: next, at };
+        if next == LAST_INDEX {
+            return (Ok(Some(visit)), Walk { next, left: 0 });
         }
-        Ok(Some(Visit { index, at }))
+        let after = Walk {
+            next: next + 1,
+            left: left - 1,
+        };
+        (Ok(Some(visit)), after)
     }
 }

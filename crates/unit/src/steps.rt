@@ -10,19 +10,24 @@ use crate::Singles;
 use plan::{LentScramble, Plan, Point, Visit, Walk};
 use refusal::Refusal;
 
-// The next visit as singles, if one is left: the step of the walk, its words made singles.
+// The next visit as singles, or the end, together with the walk after it: the step of the walk, its words made singles.
 pub fn step_singles(
-    walk: &mut Walk,
+    walk: Walk,
     plan: Plan,
     lent: LentScramble,
-) -> Result<Option<Visit<Singles>>, Refusal>
-    ensures step { of_result (answer_of (λ v. v)) result
-        ≡ through (λ t. t.answer) (singles_step_outcome plan (scramble_lent lent.entry) (of_walk walk.old)) }
-    ensures walk { of_walk walk.new
-        ≡ part_left (singles_step_outcome plan (scramble_lent lent.entry) (of_walk walk.old)) (λ t. t.walk) (of_walk walk.old) }
+) -> (Result<Option<Visit<Singles>>, Refusal>, Walk)
+    ensures step { of_result (answer_of (λ v. v)) result.0
+        ≡ through (λ t. t.answer) (singles_step_outcome plan (scramble_lent lent.entry) (of_walk walk)) }
+    ensures walk { of_walk result.1
+        ≡ part_left (singles_step_outcome plan (scramble_lent lent.entry) (of_walk walk)) (λ t. t.walk) (of_walk walk) }
 {
-    let given = walk.step(plan, lent)?;
-    Ok(given.map(|visit| in_singles(visit)))
+    let (given, after) = walk.step(plan, lent);
+    let singles = match given {
+        Ok(Some(visit)) => Ok(Some(in_singles(visit))),
+        Ok(None) => Ok(None),
+        Err(why) => Err(why),
+    };
+    (singles, after)
 }
 
 // A visit with its point as singles.

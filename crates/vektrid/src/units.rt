@@ -84,11 +84,11 @@ pub extern "C" fn vektrid_walk_step_singles(
         (two_singles x.old y.old)) }
 {
     let lent = scramble_of_words(shift_x, shift_y, flips_x, flips_y);
-    let mut walk = Walk {
+    let start = Walk {
         next: *next,
         left: *left,
     };
-    let stepped = pair_calls::step_singles(words, &mut walk, lent);
+    let (stepped, walk) = pair_calls::step_singles(words, start, lent);
     *next = walk.next;
     *left = walk.left;
     match stepped {

@@ -57,11 +57,11 @@ pub extern "C" fn vektrid_walk_step(
         (step_words next.old left.old given.old index.old (x.old, y.old)) }
 {
     let lent = scramble_of_words(shift_x, shift_y, flips_x, flips_y);
-    let mut walk = Walk {
+    let start = Walk {
         next: *next,
         left: *left,
     };
-    let stepped = pair_calls::step(words, &mut walk, lent);
+    let (stepped, walk) = pair_calls::step(words, start, lent);
     *next = walk.next;
     *left = walk.left;
     match stepped {
