@@ -42,16 +42,20 @@ impl Flips {
         crate::none_set(self.x) && crate::none_set(self.y)
     }
 
-    // The flips that the bytes of two axes hold.
+    // The flips that the bytes of two axes hold. They are judged before they are copied: `TryFrom` moves them more than once, which a point pays.
     #[tactic(auto, using(crate::proofs::Loading::judged))]
     pub fn load(x: &[u8], y: &[u8]) -> Result<Flips, Refusal>
         ensures { of_result (λ f. f) result ≡ flips_load_outcome (flips_of x.now y.now) }
     {
-        let own_x = AxisFlips::try_from(x).map_err(|_| Refusal::FlipBytes)?;
-        let own_y = AxisFlips::try_from(y).map_err(|_| Refusal::FlipBytes)?;
-        if own_x[LAST_BYTE] >= UNUSED_SET || own_y[LAST_BYTE] >= UNUSED_SET {
+        if x.len() != FLIP_BYTES || y.len() != FLIP_BYTES {
+            return Err(Refusal::FlipBytes);
+        }
+        if x[LAST_BYTE] >= UNUSED_SET || y[LAST_BYTE] >= UNUSED_SET {
             return Err(Refusal::FlipBit);
         }
-        Ok(Flips { x: own_x, y: own_y })
+        let mut flips = Flips::none();
+        flips.x.copy_from_slice(x);
+        flips.y.copy_from_slice(y);
+        Ok(flips)
     }
 }

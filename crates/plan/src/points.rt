@@ -37,16 +37,18 @@ pub struct LentScramble<'a> {
 }
 
 impl<'a> LentScramble<'a> {
-    // The scramble by value, or why its flips are refused.
+    // The scramble by value, or why its flips are refused. A `?` would move the flips once more.
     #[tactic(auto, using(refusal::proofs::Results::tested))]
     pub fn load(self) -> Result<Scramble, Refusal>
         ensures { of_result (λ s. s) result ≡ scramble_load_outcome (scramble_lent self.entry) }
     {
-        let flips = Flips::load(self.flips_x, self.flips_y)?;
-        Ok(Scramble {
-            shift: self.shift,
-            flips,
-        })
+        match Flips::load(self.flips_x, self.flips_y) {
+            Ok(flips) => Ok(Scramble {
+                shift: self.shift,
+                flips,
+            }),
+            Err(why) => Err(why),
+        }
     }
 }
 

@@ -1,7 +1,6 @@
 -- `fill`: refused where the words are, and else the fill of their matrices.
 use Rattle.std.specs.Prelude.{Err}
 use mathlib.Core.Path.{◌≡◌, sym, ap, ◌∙◌}
-use mathlib.Core.List.{List}
 use borrow.Author.Rules.{rules}
 use Rattle.refusal.specs.Refusal.{of_judgement}
 use Rattle.refusal.proofs.First.{granted-accepted, granted-refused}

@@ -1,6 +1,6 @@
 -- `point_singles`: the same with the point as singles.
 use Rattle.std.specs.Prelude.{Err}
-use mathlib.Core.Path.{◌≡◌, sym, ap, ◌∙◌}
+use mathlib.Core.Path.{◌≡◌, ap, ◌∙◌}
 use borrow.Author.Rules.{rules}
 use Rattle.refusal.specs.Refusal.{of_result}
 use Rattle.plan.specs.Pair.{scramble_lent}

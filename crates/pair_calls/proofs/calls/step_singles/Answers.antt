@@ -1,9 +1,8 @@
 -- `step_singles`: refused where the words are, and else the step with their matrices.
-use mathlib.Core.Path.{◌≡◌, sym, ap, ◌∙◌}
-use Rattle.refusal.specs.Outcome.{Outcome, part_left, through}
-use Rattle.refusal.specs.Refusal.{of_result}
+use mathlib.Core.Path.{ap, ◌∙◌}
+use Rattle.refusal.specs.Outcome.{part_left, through}
 use Rattle.plan.specs.Pair.{scramble_lent, loaded}
-use Rattle.plan.specs.Walk.{of_walk, answer_of}
+use Rattle.plan.specs.Walk.{of_walk}
 use Rattle.unit.specs.Singles.{singles_step_outcome}
 use Rattle.pair_calls.proofs.Loading.{pair_stops, pair_gives}
 use Rattle.pair_calls.proofs.calls.step_singles.Goals as goal
