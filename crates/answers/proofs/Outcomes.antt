@@ -23,17 +23,17 @@ module _ {A : Type 0} {o : Outcome A} {a : A} (e : o ≡ accepted a) where
 
 -- a call that hands out nothing, told by the same call that hands out something
 module _ {A B : Type 0} (o : Outcome A) (b : B) where
-  pub number-then : answer_number (then o (accepted b)) ≡ answer_number o
+  pub number_then : answer_number (then o (accepted b)) ≡ answer_number o
   unfolding then
-  number-then = go o
+  number_then = go o
     where
       go : (p : Outcome A) → answer_number (then p (accepted b)) ≡ answer_number p
       go (accepted a) = refl
       go (refused n vs) = refl
 
-  pub value-then : (k old : ℕ) → value_left (then o (accepted b)) k old ≡ value_left o k old
+  pub value_then : (k old : ℕ) → value_left (then o (accepted b)) k old ≡ value_left o k old
   unfolding then
-  value-then k old = go o
+  value_then k old = go o
     where
       go : (p : Outcome A) → value_left (then p (accepted b)) k old ≡ value_left p k old
       go (accepted a) = refl

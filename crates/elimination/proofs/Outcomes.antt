@@ -17,7 +17,7 @@ use Rattle.net.proofs.Units.{solve-additive, product_ext}
 use Rattle.word.specs.Index.{index_bits}
 use Rattle.elimination.specs.Elimination.{KernelIs, Eliminates, Inverts}
 use Rattle.elimination.specs.Basis.{entries}
-use Rattle.elimination.proofs.Refinement.{choice, Pending}
+use Rattle.elimination.proofs.Refinement.{choice, Pending, pending_kernel}
 
 module _ (columns : List ℕ) (small : Below (2 ^ 32) columns) (m : ℕ) where
   abbrev L : ℕ → ℕ
@@ -29,27 +29,34 @@ module _ (columns : List ℕ) (small : Below (2 ^ 32) columns) (m : ℕ) where
   sound : (o : Eliminated) → eliminate 2 L choice m 0 [] ≡ o → Sound 2 L m o
   sound o e = subst (Sound 2 L m) e (eliminate_sound two additive choice (λ i. product_lt one_lt_two 32 columns i small) m)
 
-  -- an index in the kernel
-  module _ (j : ℕ) (stops : eliminate 2 L choice m 0 [] ≡ in_kernel j) where
-    positive : 0 < j
-    positive = (sound (in_kernel j) stops).1.positive
+  -- the pivot is 0: its index is in the kernel
+  module _ {n c : ℕ} {asked : ℕ → ℕ} {rest moved asked-rest found : List ℕ} (now : Pending L m n asked c rest moved asked-rest found)
+      (inside : c < m) (none : get_or rest c 0 ≡ 0) where
+    stops : eliminate 2 L choice m 0 [] ≡ in_kernel (get_or moved c 0)
+    stops = pending_kernel additive now inside none
 
-    kernel_found : KernelIs columns m j
-    kernel_found = record { least = λ n. sound (in_kernel j) stops; none = λ z. let some = positive in absurd (omega arith) }
+    pub positive : 0 < get_or moved c 0
+    positive = (sound (in_kernel (get_or moved c 0)) stops).1.positive
 
-    pub eliminated_kernel : (asked : ℕ) → Eliminates columns m asked j 0
-    eliminated_kernel asked = record {
+    kernel_found : KernelIs columns m (get_or moved c 0)
+    kernel_found = record {
+      least = λ n. sound (in_kernel (get_or moved c 0)) stops;
+      none = λ z. let some = positive in absurd (omega arith);
+    }
+
+    pub eliminated_kernel : (word kernel : ℕ) → kernel ≡ get_or moved c 0 → Eliminates columns m word kernel 0
+    eliminated_kernel word kernel e = rw e (record {
       kernel_is = kernel_found;
       no_index = λ n. refl;
       found = λ z. let some = positive in absurd (omega arith);
-    }
+    })
 
-    pub inverted_kernel : Inverts columns m j (replicate index_bits 0)
-    inverted_kernel = record {
+    pub inverted_kernel : (kernel : ℕ) → kernel ≡ get_or moved c 0 → Inverts columns m kernel (replicate index_bits 0)
+    inverted_kernel kernel e = rw e (record {
       kernel_is = kernel_found;
       no_inverse = λ n. refl;
       back = λ z. let some = positive in absurd (omega arith);
-    }
+    })
 
   -- a basis inverts the product
   module _ (fs : List BasisEntry) (whole : eliminate 2 L choice m 0 [] ≡ basis fs) where

@@ -1,6 +1,6 @@
 -- What the functions of the elimination promise one another, over arrays of words beside their indexes, and the notions by which the
 -- proofs relate them to the model. Other crates cite none of this.
-use Rattle.std.specs.Prelude.{◌≡◌, ◌⊎◌, List, [], ◌∷◌, ℕ, zero, suc, ◌*◌, ◌/◌, ◌%◌, ◌^◌, ◌≤◌, ◌<◌, length, get_or}
+use Rattle.std.specs.Prelude.{◌≡◌, List, [], ◌∷◌, ℕ, zero, suc, ◌*◌, ◌/◌, ◌%◌, ◌^◌, ◌≤◌, ◌<◌, length, get_or}
 use Rattle.std.specs.Int.Bits.{bit_xor}
 use Rattle.std.specs.Int.Count.{count_trailing_zeros}
 use Rattle.digits.specs.Digits.{plus, minus}
@@ -29,13 +29,6 @@ Sweeps words indexes n v k word index = (L : ℕ → ℕ) → Additive 2 L → I
 
 -- ---- the arrays of the code
 
--- the entries of a part are cleared together
-abbrev pub part : ℕ
-part = 4
-
-abbrev pub Long : List ℕ → List ℕ → Type 0
-Long words indexes = (length words ≡ index_bits) × (length indexes ≡ index_bits)
-
 -- word t of the list has bit t alone
 pub record Units (words : List ℕ) : Type 0 where
   pub long : length words ≡ index_bits
@@ -49,7 +42,3 @@ added by w x y = bit_xor y (x * (w / 2 ^ count_trailing_zeros 32 by % 2))
 pub record Clears (by along from to : ℕ) (words indexes words' indexes' : List ℕ) : Type 0 where
   pub word : (d : ℕ) → from ≤ d → d < to → get_or words' d 0 ≡ added by (get_or words d 0) by (get_or words d 0)
   pub index : (d : ℕ) → from ≤ d → d < to → get_or indexes' d 0 ≡ added by (get_or words d 0) along (get_or indexes d 0)
-
--- and all other elements of a list are as they were
-abbrev pub Stays : (from to : ℕ) → List ℕ → List ℕ → Type 0
-Stays from to old new = (d : ℕ) → (d < from) ⊎ (to ≤ d) → get_or new d 0 ≡ get_or old d 0

@@ -1,9 +1,10 @@
 -- What an elimination answers, over the product of columns with an index (net's `product`, in base two).
-use Rattle.std.specs.Prelude.{◌≡◌, ◌≢◌, ◌⊎◌, List, ℕ, ◌^◌, ◌≤◌, ◌<◌, replicate}
+use Rattle.std.specs.Prelude.{◌≡◌, ◌≢◌, ◌⊎◌, List, ℕ, ◌^◌, ◌≤◌, ◌<◌, replicate, Result, Ok, Err}
 use Rattle.net.specs.Generators.{Generators, product}
 use Rattle.net.specs.Scrambling.{plain}
 use Rattle.net.specs.Elimination.{LeastZero, interval}
 use Rattle.word.specs.Index.{index_bits}
+use Rattle.elimination.specs.declared.kernel.Dependent.{Dependent}
 
 -- ---- the columns of a shape
 
@@ -27,7 +28,22 @@ pub record KernelIs (columns : List ℕ) (m kernel : ℕ) : Type 0 where
   pub least : kernel ≢ 0 → (kernel < 2 ^ m) × LeastZero (product 2 columns) kernel
   pub none : kernel ≡ 0 → (i : ℕ) → i < 2 ^ m → product 2 columns i ≡ 0 → i ≡ 0
 
+-- the kernel that a result names, and 0 where it names none
+abbrev pub kernel_of : {A : Type 0} → Result A Dependent → ℕ
+kernel_of (Ok x) = 0
+kernel_of (Err d) = d.kernel
+
 -- ---- what is asked for
+
+-- the index that a result gives, and 0 where it gives none
+abbrev pub index_of : Result ℕ Dependent → ℕ
+index_of (Ok index) = index
+index_of (Err d) = 0
+
+-- the inverse that a result gives, and columns of 0 where it gives none
+abbrev pub inverse_of : Result (List ℕ) Dependent → List ℕ
+inverse_of (Ok inverse) = inverse
+inverse_of (Err d) = replicate index_bits 0
 
 -- the index for one word: where an index of m digits has this word as its product, it is that index; where there is a kernel, it is 0
 pub record Eliminates (columns : List ℕ) (m asked kernel index : ℕ) : Type 0 where

@@ -5,6 +5,7 @@ ghost use Rattle.elimination.specs.Elimination.{ShapeColumns, ShapeColumnsAny};
 ghost use Rattle.elimination.specs.Basis.{Units};
 
 use plan::Plan;
+use std::array;
 use word::{COLUMNS, Columns, join, top};
 
 // Writes each column as the number of the plain cell of the index that has only this column's bit.
@@ -12,14 +13,9 @@ fn put_columns(plan: Plan, m: u32, a: u32) -> Columns
     requires { Shape (generators plan) m a }
     ensures { ShapeColumns (generators plan) m a result }
 {
-    let x = plan.x;
-    let y = plan.y;
-    let n = m as usize;
-    let mut columns = [0u32; COLUMNS];
-    let mut c: usize = 0;
-    while c < n {
-        columns[c] = join(top(x[c], a), top(y[c], m - a), m - a);
-        c += 1;
+    let mut columns = [0; COLUMNS];
+    for c in 0..m as usize {
+        columns[c] = join(top(plan.x[c], a), top(plan.y[c], m - a), m - a);
     }
     columns
 }
@@ -28,10 +24,7 @@ fn put_columns(plan: Plan, m: u32, a: u32) -> Columns
 pub fn shape_columns(plan: Plan, m: u32, a: u32) -> Columns
     ensures { ShapeColumnsAny (generators plan) m a result }
 {
-    if a > m {
-        return [0; COLUMNS];
-    }
-    if m > Plan::LARGEST_LEVEL {
+    if a > m || m > Plan::LARGEST_LEVEL {
         return [0; COLUMNS];
     }
     put_columns(plan, m, a)
@@ -41,11 +34,5 @@ pub fn shape_columns(plan: Plan, m: u32, a: u32) -> Columns
 pub(crate) fn unit_words() -> Columns
     ensures { Units result }
 {
-    let mut words = [0u32; COLUMNS];
-    let mut t: usize = 0;
-    while t < COLUMNS {
-        words[t] = 1 << t;
-        t += 1;
-    }
-    words
+    array::from_fn(|t| 1 << t)
 }

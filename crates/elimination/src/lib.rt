@@ -5,8 +5,10 @@
 mod clearing;
 mod columns;
 mod inverse;
+mod kernel;
 mod solving;
 
 pub use columns::shape_columns;
-pub use inverse::{Inverse, invert};
-pub use solving::{Elimination, eliminate};
+pub use inverse::invert;
+pub use kernel::Dependent;
+pub use solving::eliminate;

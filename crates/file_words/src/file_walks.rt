@@ -18,7 +18,19 @@ pub type FileWalkWords = [u32; FILE_WALK_WORDS];
 pub fn walk_of(words: FileWalkWords) -> FileWalk
     ensures { result ≡ walk_of words }
 {
-    let [number, next, left, top, width, height, x, y, count, index, links] = words;
+    let [
+        number,
+        next,
+        left,
+        top,
+        width,
+        height,
+        x,
+        y,
+        count,
+        index,
+        links,
+    ] = words;
     FileWalk {
         number,
         planned: Record {

@@ -1,9 +1,14 @@
 -- Flips of which no bit is set: their bytes are 0, and they leave every word. Assumes nothing.
+use Rattle.std.specs.Prelude.{◌↔◌, true, nat_eq}
+use Rattle.std.specs.List.{fold}
+use Rattle.std.proofs.Common.{eqb-true}
+use Rattle.std.proofs.lemmas.Nat.{le_or_l, le_or_r}
 use mathlib.Core.Path.{◌≡◌, refl, sym, ap, ◌∙◌}
 use mathlib.Core.List.{List, [], ◌∷◌}
 use Prim.Native.Nat.{ℕ, zero, suc, ◌+◌, ◌-◌, ◌*◌, ◌/◌, ◌%◌, ◌^◌, ◌≤◌, ◌<◌}
 use native.Mathlib.Omega.{arith}
 use native.Mathlib.Decide.{dec_lt}
+use lib.Bits.{bit_or}
 use lib.ListN.{length, get_or, replicate}
 use lib.Seq.{ext_get_or}
 use Rattle.ranges.specs.Below.{Below}
@@ -25,6 +30,20 @@ past_end [] k h = refl
 past_end (x ∷ l) zero h = absurd (omega arith)
 past_end (x ∷ l) (suc k) h = past_end l k (omega arith)
 
+-- numbers joined bit by bit are at least each of them, and 0 where each of them is
+joined_first : (a : ℕ) (l : List ℕ) → a ≤ fold bit_or a l
+joined_first a [] = omega arith
+joined_first a (x ∷ l) = omega (arith, le_or_l a x, joined_first (bit_or a x) l)
+
+joined_each : (a : ℕ) (l : List ℕ) (k : ℕ) → get_or l k 0 ≤ fold bit_or a l
+joined_each a [] k = omega arith
+joined_each a (x ∷ l) zero = omega (arith, le_or_r a x, joined_first (bit_or a x) l)
+joined_each a (x ∷ l) (suc k) = joined_each (bit_or a x) l k
+
+joined_zero : (l : List ℕ) → NoBytes l (length l) → fold bit_or 0 l ≡ 0
+joined_zero [] zeros = refl
+joined_zero (x ∷ l) zeros = rw (zeros 0 (omega arith)) (joined_zero l (λ k h. zeros (suc k) (omega arith)))
+
 module _ (flips : List ℕ) where
   pub none-of-bytes : NoBytes flips (length flips) → NoneSet flips
   unfolding flip_bit
@@ -45,6 +64,13 @@ module _ (flips : List ℕ) where
           let low : (k * 8 + i) % 8 ≡ i = omega arith in
           sym (ap (λ (n : ℕ). digit 2 n (get_or flips ((k * 8 + i) / 8) 0)) low ∙ ap (λ (n : ℕ). digit 2 i (get_or flips n 0)) high)
           ∙ none (k * 8 + i) ∙ sym (digit_zero one_lt_two i)
+
+  -- the bytes, joined bit by bit
+  pub none-joined : (joined : ℕ) → joined ≡ fold bit_or 0 flips → ((k : ℕ) → get_or flips k 0 < 256) → (nat_eq joined 0 ≡ true) ↔ NoneSet flips
+  none-joined joined e bytes = (
+    λ zero. none-of-bytes (λ k h. let at = joined_each 0 flips k in let is = eqb-true joined 0 zero in omega (arith, e)),
+    λ none. rw (e, joined_zero flips (λ k h. byte_of-none none k (bytes k))) refl,
+  )
 
   -- nothing is added to any bit
   none-at : NoneSet flips → (t p : ℕ) → t < 8 → flip_at flips t p ≡ 0

@@ -6,6 +6,7 @@ use native.Mathlib.Nat.{pow-suc}
 use native.Mathlib.Numerals.{add-one}
 use native.Mathlib.Omega.{arith}
 use lib.Bits.{bit_xor}
+use lib.ListN.{get_or}
 use Rattle.digits.specs.Digits.{plus}
 use Rattle.digits.proofs.Digit.{digit_lt, pow_pos}
 use Rattle.digits.proofs.Arithmetic.{plus_comm, plus-minus}
@@ -14,6 +15,7 @@ use Rattle.net.specs.Sequence.{top}
 use Rattle.net.proofs.Scrambling.{top-none, top-suc}
 use Rattle.flips.specs.Flips.{flip_bit, flipped}
 use Rattle.flips.specs.Scramble.{mask}
+use Rattle.flips.specs.Tree.{OnTheWay}
 use Rattle.flips.proofs.FlipBits.{flip_bit_lt}
 use Rattle.flips.proofs.Turn.{high, mask_starts, mask_turn, mask-ends}
 
@@ -50,8 +52,11 @@ module _ (flips : List ℕ) where
           )
 
   -- after eight bits it is the mask of the top byte
-  pub leaf : (v m s : ℕ) → v < 256 → AddedAt flips (255 + v) m → (m < 256) × (bit_xor (m * 2 ^ 24) s ≡ mask flips s v)
-  leaf v m s h here =
+  pub leaf : (tree : List ℕ) → OnTheWay flips 511 tree → (v s : ℕ) → v < 256
+      → (get_or tree (255 + v) 0 < 256) × (bit_xor (get_or tree (255 + v) 0 * 2 ^ 24) s ≡ mask flips s v)
+  leaf tree on v s h =
+      let m = get_or tree (255 + v) 0 in
+      let here = on (255 + v) (omega arith) in
       let w : ℕ = v * 2 ^ 24 in
       let M : ℕ = m * 2 ^ 24 in
       let byte : top 2 32 8 w ≡ v = omega arith in

@@ -1,4 +1,4 @@
-// A buffer of products flipped and shifted in place: the flips are read 256 times, and not once for each word.
+// A buffer of products flipped and shifted in place: the flips are read 255 times, and not once for each word.
 ghost use Rattle.std.specs.Prelude.{◌≡◌, map};
 ghost use Rattle.flips.specs.Scramble.{scramble_word};
 
@@ -10,10 +10,7 @@ pub fn scramble_all(flips: AxisFlips, shift: u32, words: &mut [u32])
     ensures { words.new ≡ map (scramble_word flips shift) words.old }
 {
     let masks = masks(flips, shift);
-    let mut k = 0;
-    while k < words.len() {
-        let word = words[k];
-        words[k] = word ^ masks[(word / 16777216) as usize];
-        k += 1;
+    for word in words.iter_mut() {
+        *word ^= masks[(*word / 16777216) as usize];
     }
 }

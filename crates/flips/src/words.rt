@@ -1,5 +1,5 @@
 // A word flipped and shifted, and back.
-ghost use Rattle.std.specs.Prelude.{◌≡◌, ◌↔◌, true, map, ℕ, ◌+◌, ◌≤◌, ◌<◌, get_or};
+ghost use Rattle.std.specs.Prelude.{◌≡◌, ◌↔◌, true, map};
 ghost use Rattle.ranges.specs.Range.{range};
 ghost use Rattle.flips.specs.Flips.{flipped, unflipped, NoneSet};
 ghost use Rattle.flips.specs.Scramble.{scramble_word, unscramble_word, mask};
@@ -20,34 +20,12 @@ const NODES: usize = 255;
 
 const TREE: usize = 511;
 
-// Whether no flip bit is set. The bytes are looked at eight at a time: where there are no flips, this is what a point pays for them.
+// Whether no flip bit is set. Where there are no flips, this is what a point pays for them: so all bytes are joined, which the compiler does with
+// sixteen at a time, and none is looked at alone.
 pub fn none_set(flips: AxisFlips) -> bool
     ensures { (result ≡ true) ↔ NoneSet flips }
 {
-    let mut at: usize = 0;
-    while at < 32 {
-        if eight_bytes(flips, at) != 0 {
-            return false;
-        }
-        at += 8;
-    }
-    true
-}
-
-// Eight bytes as one number, the first of them lowest, which the compiler reads at once. Only whether it is 0 is promised.
-fn eight_bytes(flips: AxisFlips, at: usize) -> u64
-    requires { at + 8 ≤ 32 }
-    ensures { (result ≡ 0) ↔ ((k : ℕ) → k < 8 → get_or flips (at + k) 0 ≡ 0) }
-{
-    let low = flips[at] as u64
-        + flips[at + 1] as u64 * 256
-        + flips[at + 2] as u64 * 65536
-        + flips[at + 3] as u64 * 16777216;
-    let high = flips[at + 4] as u64
-        + flips[at + 5] as u64 * 256
-        + flips[at + 6] as u64 * 65536
-        + flips[at + 7] as u64 * 16777216;
-    low + high * 4294967296
+    flips.iter().fold(0u8, |joined, byte| joined | *byte) == 0
 }
 
 // A product with the flips made and the shift added.
@@ -72,13 +50,11 @@ fn flip(flips: AxisFlips, word: u32) -> u32
     let wide = word as u64;
     let mut first: u64 = 0;
     let mut mask: u32 = 0;
-    let mut t: u64 = 0;
-    while t < 8 {
+    for t in 0..8u64 {
         let node = first + (wide >> (32 - t));
         let set = (flips[(node / 8) as usize] as u32 >> (node % 8)) % 2;
         mask = mask * 2 + set;
         first = first * 2 + 1;
-        t += 1;
     }
     word ^ (mask * TOP_BYTE)
 }
@@ -88,12 +64,10 @@ fn unflip(flips: AxisFlips, word: u32) -> u32
     ensures { result ≡ unflipped flips word }
 {
     let mut node: u32 = 0;
-    let mut t: u32 = 0;
-    while t < DEPTH {
+    for t in 0..DEPTH {
         let bit = (word >> (31 - t)) % 2;
         let set = (flips[(node / 8) as usize] as u32 >> (node % 8)) % 2;
         node = node * 2 + 1 + (bit + set) % 2;
-        t += 1;
     }
     (node - 255) * TOP_BYTE + word % TOP_BYTE
 }
@@ -104,10 +78,8 @@ pub fn masks(flips: AxisFlips, shift: u32) -> [u32; MASKS]
 {
     let tree = added_on_the_way(flips);
     let mut masks = [0u32; MASKS];
-    let mut v: usize = 0;
-    while v < MASKS {
-        masks[v] = (tree[NODES + v] * TOP_BYTE) ^ shift;
-        v += 1;
+    for (v, mask) in masks.iter_mut().enumerate() {
+        *mask = (tree[NODES + v] * TOP_BYTE) ^ shift;
     }
     masks
 }
@@ -118,13 +90,11 @@ fn added_on_the_way(flips: AxisFlips) -> [u32; TREE]
     ensures { OnTheWay flips 511 result }
 {
     let mut tree = [0u32; TREE];
-    let mut node: usize = 0;
-    while node < NODES {
+    for node in 0..NODES {
         let set = (flips[node / 8] as u32 >> (node % 8)) % 2;
         let next = tree[node] * 2 + set;
         tree[node * 2 + 1] = next;
         tree[node * 2 + 2] = next;
-        node += 1;
     }
     tree
 }

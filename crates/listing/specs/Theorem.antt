@@ -7,7 +7,7 @@ use Rattle.listing.specs.declared.cursors.Cursor.{Cursor}
 use Rattle.listing.specs.Listing.{report, listing, longest_line}
 use Rattle.listing.specs.Cursor.{to_come, ListingPiece}
 
--- calls of `piece` one after the other, each from the cursor that the one before handed back, with any buffers
+-- calls of `piece` one after the other, each from the cursor that the one before left, with any buffers
 abbrev pub ListingPieces : List ℕ → Cursor → List (List ℕ) → Cursor → Type 0
 ListingPieces file = Pieces (to_come file) longest_line
 

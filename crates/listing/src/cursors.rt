@@ -1,16 +1,17 @@
 // A cursor in a listing: what is still to come, and the next piece of it.
-ghost use Rattle.std.specs.Prelude.{◌≡◌, ◌≤◌, length, take, drop};
+ghost use Rattle.std.specs.Prelude.{◌≡◌, ◌≤◌, length};
 ghost use Rattle.text.specs.Put.{put};
-ghost use Rattle.text.specs.Pieces.{Counts};
+ghost use Rattle.std.proofs.Common.{rules};
 ghost use Rattle.listing.specs.Listing.{listing, longest_line};
-ghost use Rattle.listing.specs.Cursor.{lead_text, to_come, ListingPiece};
+ghost use Rattle.listing.specs.Cursor.{lead_text, to_come};
 
 use crate::lines::{LONGEST_LINE, put_lines};
 use crate::refusals::refusal_line;
-use visits::{FileWalk, OpenedFile};
+use text::Pieces;
+use visits::FileWalk;
 
-// What stands before the lines that are still to come.
-#[derive(Clone, Copy)]
+// What stands before the lines that are still to come. A refusal is its number, since the words that C keeps for a cursor may hold any number.
+#[derive(Clone, Copy, Debug, PartialEq, Eq)]
 pub enum Lead {
     Nothing,
     Header,
@@ -22,13 +23,6 @@ pub enum Lead {
 pub struct Cursor {
     pub lead: Lead,
     pub walk: FileWalk,
-}
-
-// The first len bytes of the buffer are the piece, and next is past it.
-#[derive(Clone, Copy)]
-pub struct Piece {
-    pub len: usize,
-    pub next: Cursor,
 }
 
 // Writes what stands before the lines, and hands back where it ends.
@@ -49,39 +43,34 @@ impl Cursor {
     pub fn open(file: &[u8]) -> Cursor
         ensures { to_come file.now result ≡ listing file.now }
     {
-        let opened = FileWalk::open(file);
-        match opened {
-            OpenedFile::Open(walk) => Cursor {
+        match FileWalk::open(file) {
+            Ok(walk) => Cursor {
                 lead: Lead::Header,
                 walk,
             },
-            OpenedFile::Refused(why) => Cursor {
+            Err(why) => Cursor {
                 lead: Lead::Refused(why.number()),
                 walk: FileWalk::ended(),
             },
         }
     }
+}
 
-    // The next piece, as long as the buffer has room for the longest line; bytes past it keep their content.
-    pub fn piece(self, file: &[u8], out: &mut [u8]) -> Piece
-        ensures counts { Counts result.len out.new }
-        ensures piece { ListingPiece file.now self result.next (take result.len out.new) (length out.new) }
-        ensures rest { drop result.len out.new ≡ drop result.len out.old }
-    {
+impl Pieces for Cursor {
+    ghost to_come = { to_come };
+
+    ghost longest = { longest_line };
+
+    ghost fits = { Prim.search rules };
+
+    // The next piece, as long as the buffer has room for the longest line: hands back how many bytes it has, and moves past it. Bytes of the
+    // buffer past it keep their content.
+    fn piece(&mut self, file: &[u8], out: &mut [u8]) -> usize {
         if out.len() < LONGEST_LINE {
-            return Piece { len: 0, next: self };
+            return 0;
         }
-        let lead = self.lead;
-        let start = self.walk;
-        let at = put_lead(lead, out);
-        let reached = put_lines(file, start, out, at);
-        let walk = reached.walk;
-        Piece {
-            len: reached.len,
-            next: Cursor {
-                lead: Lead::Nothing,
-                walk,
-            },
-        }
+        let at = put_lead(self.lead, out);
+        self.lead = Lead::Nothing;
+        put_lines(file, &mut self.walk, out, at)
     }
 }

@@ -1,11 +1,11 @@
-// The listing of a region file as text, piece by piece: a cursor that goes from call to call by value. Every call takes any bytes and
-// any cursor.
+// The listing of a region file as text, piece by piece: each call moves a cursor past its piece. Every call takes any bytes and any
+// cursor.
 #![tactic(auto)]
 
 mod cursors;
 mod lines;
 mod refusals;
 
-pub use cursors::{Cursor, Lead, Piece};
+pub use cursors::{Cursor, Lead};
 pub use lines::LONGEST_LINE;
 pub use refusals::refusal_line;

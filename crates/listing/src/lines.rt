@@ -4,17 +4,10 @@ ghost use Rattle.text.specs.Put.{put};
 ghost use Rattle.listing.specs.Listing.{line, longest_line};
 ghost use Rattle.listing.specs.Lines.{LinesPut};
 
-use visits::{FileStep, FileVisit, FileWalk};
+use visits::{FileVisit, FileWalk};
 
 // The length of the longest line: two numbers and two signed numbers, each with the byte after it.
 pub const LONGEST_LINE: usize = 2 * text::LONGEST_NUMBER + 2 * text::LONGEST_SIGNED;
-
-// How far the lines reach in the buffer, and the walk after them.
-#[derive(Clone, Copy)]
-pub(crate) struct Reached {
-    pub len: usize,
-    pub walk: FileWalk,
-}
 
 // Four fields, one space between, and a line feed.
 fn put_line(visit: FileVisit, out: &mut [u8], at: usize) -> usize
@@ -24,28 +17,21 @@ fn put_line(visit: FileVisit, out: &mut [u8], at: usize) -> usize
 {
     let second = text::number(visit.number, b' ', out, at);
     let third = text::number(visit.index, b' ', out, second);
-    let x = visit.x;
-    let fourth = text::signed_number(x, b' ', out, third);
-    let y = visit.y;
-    text::signed_number(y, b'\n', out, fourth)
+    let fourth = text::number(visit.x, b' ', out, third);
+    text::number(visit.y, b'\n', out, fourth)
 }
 
-// The lines to come from a walk, each while the longest line has room.
-pub(crate) fn put_lines(file: &[u8], start: FileWalk, out: &mut [u8], at: usize) -> Reached
+// The lines to come from a walk, each while the longest line has room; hands back where they end.
+pub(crate) fn put_lines(file: &[u8], walk: &mut FileWalk, out: &mut [u8], at: usize) -> usize
     requires { at ≤ length out.old }
-    ensures { LinesPut file.now start out.old at result.walk out.new result.len }
+    ensures { LinesPut file.now walk.old out.old at walk.new out.new result }
 {
-    let mut walk = start;
     let mut len = at;
     while out.len() - len >= LONGEST_LINE {
-        let stepped = walk.step(file);
-        let answer = stepped.step;
-        let next = stepped.walk;
-        walk = next;
-        let FileStep::Visited(visit) = answer else {
-            return Reached { len, walk };
+        let Some(visit) = walk.step(file) else {
+            return len;
         };
         len = put_line(visit, out, len);
     }
-    Reached { len, walk }
+    len
 }

@@ -22,9 +22,6 @@ use Rattle.minors.proofs.Pivots.{reduced-none, reduced-rows-next, pivots_next, p
 abbrev pub Going : List ℕ → ℕ → List ℕ → ℕ → Type 0
 Going words a reduced m = (A : Matrix) → ReducedRows A a a words → Pivots A a → Pivots A m × ReducedRows A m a reduced
 
-pub going_none : (words : List ℕ) (a : ℕ) → Going words a words a
-going_none words a A L P = (P, L)
-
 pub going_more : (words reduced out : List ℕ) (a m : ℕ) → Going words a reduced m → a ≤ m → m < 32 → digit 2 m (get_or reduced (m - a) 0) ≡ 1
     → AllCleared (get_or reduced (m - a) 0) m reduced out → Going words a out (m + 1)
 going_more words reduced out a m going l h one all A L P =

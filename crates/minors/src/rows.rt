@@ -2,7 +2,7 @@
 ghost use Rattle.std.specs.Prelude.{◌<◌};
 ghost use Rattle.minors.specs.Minors.{IsRow, AreRows};
 
-use word::{COLUMNS, Columns};
+use word::Columns;
 
 // The number of rows of a generator matrix: one for each bit of a column.
 pub(crate) const ROWS: usize = 32;
@@ -16,10 +16,8 @@ fn row(columns: Columns, r: u32) -> u32
     ensures { IsRow columns r result }
 {
     let mut word = 0u32;
-    let mut c: usize = COLUMNS;
-    while c > 0 {
-        c -= 1;
-        word = word * 2 + (columns[c] >> (31 - r)) % 2;
+    for column in columns.iter().rev() {
+        word = word * 2 + (*column >> (31 - r)) % 2;
     }
     word
 }
@@ -29,10 +27,8 @@ pub(crate) fn rows(columns: Columns) -> Rows
     ensures { AreRows columns result }
 {
     let mut words = [0u32; ROWS];
-    let mut r: usize = 0;
-    while r < ROWS {
-        words[r] = row(columns, r as u32);
-        r += 1;
+    for (r, word) in words.iter_mut().enumerate() {
+        *word = row(columns, r as u32);
     }
     words
 }

@@ -3,7 +3,7 @@ ghost use Rattle.std.specs.Prelude.{◌≤◌, ◌<◌};
 ghost use Rattle.word.specs.Matrices.{pair};
 ghost use Rattle.minors.specs.Minors.{AllCleared, Reaches, FirstDoubt, Starts};
 
-use crate::rows::{ROWS, Rows, rows};
+use crate::rows::{Rows, rows};
 use word::Columns;
 
 // The largest size m of a shape: one for each row.
@@ -16,19 +16,14 @@ pub struct Start {
     pub a: u32,
 }
 
-// Every word with its bit c cleared by one word.
-fn clear(words: Rows, by: u32, c: u32) -> Rows
+// Clears bit c of every word by one word.
+fn clear(words: &mut Rows, by: u32, c: u32)
     requires { c < 32 }
-    ensures { AllCleared by c words result }
+    ensures { AllCleared by c words.old words.new }
 {
-    let mut out = [0u32; ROWS];
-    let mut t: usize = 0;
-    while t < ROWS {
-        let word = words[t];
-        out[t] = word ^ by * ((word >> c) % 2);
-        t += 1;
+    for word in words.iter_mut() {
+        *word ^= by * ((*word >> c) % 2);
     }
-    out
 }
 
 // The largest m up to top for which the leading minors a + 1 to m are odd. The words are what the first a rows leave of the rows after them.
@@ -37,17 +32,14 @@ fn minors_up_to(words: Rows, a: u32, top: u32) -> u32
     ensures { (a ≤ result) × (result ≤ top) × Reaches words a result }
 {
     let mut reduced = words;
-    let mut m = a;
-    while m < top {
+    for m in a..top {
         let by = reduced[(m - a) as usize];
         if (by >> m) % 2 == 0 {
             return m;
         }
-        let next = clear(reduced, by, m);
-        reduced = next;
-        m += 1;
+        clear(&mut reduced, by, m);
     }
-    m
+    top
 }
 
 // a, if its minors stopped below top; else what it was.
@@ -67,6 +59,7 @@ fn scan(first: Columns, second: Columns, level: u32) -> Start
     let mut top = level;
     let mut at = 0u32;
     let mut a = 0u32;
+    // The bound of the loop falls inside it, so it is no range.
     while a < top {
         let by = x[a as usize];
         if (by >> a) % 2 == 0 {
@@ -76,10 +69,8 @@ fn scan(first: Columns, second: Columns, level: u32) -> Start
         let r = minors_up_to(y, a, top);
         at = first_doubt(top, at, r, a);
         top = r;
-        let below = clear(x, by, a);
-        let beside = clear(y, by, a);
-        x = below;
-        y = beside;
+        clear(&mut x, by, a);
+        clear(&mut y, by, a);
         a += 1;
     }
     let m = top + 1;

@@ -71,6 +71,15 @@ module _ (C : List ℕ) where
       joined : plus 2 base i ≡ base + i
       joined = ap (λ (x : ℕ). plus 2 x i) split ∙ plus_split one_lt_two 6 (base / 64) i h ∙ ap (λ (x : ℕ). x + i) (sym split)
 
+  -- the running sum of six columns leads from the first index of a group to the last
+  pub group-last : (sums : List ℕ) → sums ≡ prefixes 2 32 C → (base word : ℕ) → base % 64 ≡ 0 → word ≡ product 2 C base
+      → bit_xor word (get_or sums 5 0) ≡ product 2 C (base + 63)
+  group-last sums e base word whole is =
+      let five : 5 < 32 = omega arith in
+      let sixty-three : 63 < 64 = omega arith in
+      sym (plus-two word (get_or sums 5 0)) ∙ ap₂ (plus 2) is (running_sum sums e 5 five ∙ ap (product 2 C) six_ones)
+      ∙ group-product base 63 whole sixty-three
+
   module _ (t : ℕ) (masks : List ℕ) where
     table-entry : (v i : ℕ) → v < 2 ^ t → i < 64 → get_or (group_tables t masks C) (v * 64 + i) 0 ≡ group_entry t masks C v i
     table-entry v i small h =
@@ -172,29 +181,23 @@ module _ {C : List ℕ} {t : ℕ} {masks : List ℕ} {start k : ℕ} {l buffer :
   pub along_all : length l ≤ k → buffer ≡ map (product_masked t masks C) (range start (length l))
   along_all h = filled_all now.filled (omega (arith, now.within))
 
-  pub along_one : k < length l → (x : ℕ) → x ≡ masked t masks word → Filled (product_masked t masks C) start (k + 1) l (set buffer k x)
-  along_one here x is = filled_more now.filled x (is ∙ ap (masked t masks) (now.word_is here)) here
+  -- one word more
+  pub along_one : k < length l → (x next : ℕ) → x ≡ masked t masks word → (k + 1 < length l → next ≡ product 2 C (start + k + 1))
+      → Along C t masks start (k + 1) l (set buffer k x) next
+  along_one here x next is after = record {
+    within = omega arith;
+    filled = filled_more now.filled x (is ∙ ap (masked t masks) (now.word_is here)) here;
+    word_is = λ more. after more ∙ ap (product 2 C) (omega arith);
+  }
 
-  -- a group is filled, and its last product leads to the next group
-  module _ (here : k < length l) (start-whole : start % 64 ≡ 0) (k-whole : k % 64 ≡ 0) where
-    whole : (start + k) % 64 ≡ 0
-    whole = omega (arith, start-whole, k-whole)
-
-    pub along_group : (table : List ℕ) → ((i : ℕ) → i < 64 → get_or table i 0 ≡ group_entry t masks C (top 2 32 t word) i)
-        → (m : ℕ) (part : List ℕ) → m ≡ 64 → part ≡ map (λ i. plus 2 word (get_or table i 0)) (range 0 64) → length l % 64 ≡ 0
-        → Filled (product_masked t masks C) start (k + 64) l (put_mid k m buffer part)
-    along_group table entries m part lent is l-whole =
-        filled-part now.filled m 64 part lent (is ∙ group_products C t masks table word (start + k) (now.word_is here) whole entries)
-        (omega (arith, here, k-whole, l-whole))
-
-    pub group-next : (sums : List ℕ) → sums ≡ prefixes 2 32 C → (z : ℕ) → z ≡ count_trailing_zeros 32 (start + (k + 64))
-        → start + (k + 64) < 2 ^ 32 → bit_xor (bit_xor word (get_or sums 5 0)) (get_or sums z 0) ≡ product 2 C (start + (k + 64))
-    group-next sums e z turn h =
-        let five : 5 < 32 = omega arith in
-        let sixty-three : 63 < 64 = omega arith in
-        let last : bit_xor word (get_or sums 5 0) ≡ product 2 C (start + k + 63) = sym (plus-two word (get_or sums 5 0))
-        ∙ ap₂ (plus 2) (now.word_is here) (running_sum C sums e 5 five ∙ ap (product 2 C) six_ones)
-        ∙ group-product C (start + k) 63 whole sixty-three in
-        next_word C sums e (bit_xor word (get_or sums 5 0)) (start + k + 63) z (turn ∙ ap (count_trailing_zeros 32) (omega arith)) (omega
-        (arith, h)) last
-        ∙ ap (product 2 C) (omega arith)
+  -- a group more, by its table
+  pub along_group : (table : List ℕ) → ((i : ℕ) → i < 64 → get_or table i 0 ≡ group_entry t masks C (top 2 32 t word) i)
+      → (start + k) % 64 ≡ 0 → (m : ℕ) (part : List ℕ) → m ≡ 64 → part ≡ map (λ i. plus 2 word (get_or table i 0)) (range 0 64)
+      → (e : ℕ) → e ≡ k + 64 → e ≤ length l → (next : ℕ) → (e < length l → next ≡ product 2 C (start + k + 64))
+      → Along C t masks start e l (put_mid k m buffer part) next
+  along_group table entries whole m part lent is e ends room next after = rw ends (record {
+    within = omega arith;
+    filled = filled-part now.filled m 64 part lent
+        (is ∙ group_products C t masks table word (start + k) (now.word_is (omega arith)) whole entries) (omega arith);
+    word_is = λ more. after (omega arith) ∙ ap (product 2 C) (omega arith);
+  })

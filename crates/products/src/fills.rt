@@ -1,13 +1,13 @@
 // A buffer filled with products: one by one up to a multiple of 64, then in whole groups, and one by one what is left.
-ghost use Rattle.std.specs.Prelude.{◌≡◌, map, ◌+◌, ◌%◌, ◌^◌, ◌≤◌, ◌<◌, length};
+ghost use Rattle.std.specs.Prelude.{◌≡◌, map, ◌+◌, ◌%◌, ◌≤◌, ◌<◌, length};
 ghost use Rattle.ranges.specs.Range.{range};
-ghost use Rattle.word.specs.Index.{index_bits, index_count};
-ghost use Rattle.word.specs.Prefix.{prefixes};
+ghost use Rattle.word.specs.Index.{index_count};
 ghost use Rattle.products.specs.Products.{product_added, products_filled, product_masked, group_size, group_tables, indexes_filled};
 
+use crate::axis::Axis;
 use crate::groups::{GROUP, in_groups};
-use crate::masking::mask_all;
-use crate::singly::{Axis, singly};
+use crate::masking::Masking;
+use crate::singly::singly;
 use crate::tables::put_tables;
 use word::{Columns, Index};
 
@@ -31,12 +31,14 @@ pub fn fill(columns: Columns, added: u32, start: Index, out: &mut [u32])
     if word::goes_past(start, out.len() as u64) {
         return;
     }
-    let sums = word::prefixes(columns);
-    let axis = Axis { columns, sums };
-    let masks = [added];
-    let mut tables = [0u32; GROUP];
-    put_tables(axis, 0, &masks, &mut tables);
-    in_parts(axis, 0, &masks, &tables, start, out);
+    let axis = Axis::new(columns);
+    let masking = Masking {
+        bits: 0,
+        masks: &[added],
+    };
+    let mut table = [0u32; GROUP];
+    put_tables(axis, masking, &mut table);
+    in_parts(axis, masking, &table, start, out);
 }
 
 // The same, with the mask added to each product that its top byte chooses: the products are masked in place.
@@ -48,7 +50,11 @@ pub fn fill_masked(columns: Columns, masks: Masks, start: Index, out: &mut [u32]
         return;
     }
     fill(columns, 0, start, out);
-    mask_all(MASK_BITS, &masks, out);
+    let masking = Masking {
+        bits: MASK_BITS,
+        masks: &masks,
+    };
+    masking.mask_all(out);
 }
 
 // The same for long buffers, through tables in which the masks are, 64 KiB on the stack. It stands apart, since a caller that the compiler
@@ -60,34 +66,37 @@ pub fn fill_by_tables(columns: Columns, masks: Masks, start: Index, out: &mut [u
     if word::goes_past(start, count) {
         return;
     }
-    let sums = word::prefixes(columns);
-    let axis = Axis { columns, sums };
+    let axis = Axis::new(columns);
+    let masking = Masking {
+        bits: MASK_BITS,
+        masks: &masks,
+    };
     let mut tables = [0u32; TABLES];
-    put_tables(axis, MASK_BITS, &masks, &mut tables);
-    in_parts(axis, MASK_BITS, &masks, &tables, start, out);
+    put_tables(axis, masking, &mut tables);
+    in_parts(axis, masking, &tables, start, out);
 }
 
-// Fills the three parts of a buffer.
-fn in_parts(axis: Axis, bits: u32, masks: &[u32], tables: &[u32], start: Index, out: &mut [u32])
-    requires sums_value { (axis.sums ≡ prefixes 2 index_bits axis.columns) × (start + length out.old ≤ index_count) }
-    requires bits_bound { (bits ≤ 8) × (length masks.now ≡ 2 ^ bits) × (tables.now ≡ group_tables bits masks.now axis.columns) }
-    ensures { out.new ≡ map (product_masked bits masks.now axis.columns) (range start (length out.old)) }
+// Fills the three parts of a buffer. The matrix, its masks and their tables are three parameters: held by one struct, short fills and masked
+// fills came out slower.
+fn in_parts(axis: Axis, masking: Masking, tables: &[u32], start: Index, out: &mut [u32])
+    requires within { start + length out.old ≤ index_count }
+    requires tables_value { tables.now ≡ group_tables masking.bits masking.masks.now axis.columns }
+    ensures { out.new ≡ map (product_masked masking.entry.bits masking.entry.masks.now axis.columns) (range start (length out.old)) }
 {
     let n = out.len();
     let head = ahead(start, n);
-    singly(axis, bits, masks, start, &mut out[..head]);
+    singly(axis, masking, start, &mut out[..head]);
     if head < n {
         let whole = head + (n - head) / GROUP * GROUP;
         in_groups(
             axis,
-            bits,
-            masks,
+            masking,
             tables,
             start + head as Index,
             &mut out[head..whole],
         );
         if whole < n {
-            singly(axis, bits, masks, start + whole as Index, &mut out[whole..]);
+            singly(axis, masking, start + whole as Index, &mut out[whole..]);
         }
     }
 }

@@ -4,6 +4,7 @@
 // the product of how far the index is from it.
 #![tactic(auto)]
 
+mod axis;
 mod fills;
 mod groups;
 mod masking;

@@ -2,7 +2,7 @@
 -- pass their tests, since each link takes a record that was free, and record 0 stays free.
 -- Assumes nothing.
 use mathlib.Core.Path.{◌≡◌, sym, ap, ◌∙◌}
-use mathlib.Core.Bool.{Bool}
+use mathlib.Core.Bool.{Bool, true, false}
 use mathlib.Core.List.{List}
 use mathlib.Core.Logic.{◌⊎◌, inl, inr}
 use Prim.Native.Nat.{ℕ, zero, suc, ◌≤◌, ◌<◌}
@@ -17,7 +17,7 @@ use Rattle.region_file.specs.declared.records.Record.{Record}
 use Rattle.region_file.specs.Records.{record_at, first_record, record_count, most_records}
 use Rattle.region_file.specs.Chain.{numbers, chain_numbers}
 use Rattle.region_file.specs.Judge.{head_tests, loader_tests, nowhere, also, chain_outcome, judge_outcome}
-use Rattle.region_file.proofs.Marks.{marked, free, free_fresh, fresh_at, marked_fresh, free-set, free-some, marked-set, unmarked}
+use Rattle.region_file.proofs.Marks.{marked, free, free_fresh, fresh_at, marked_fresh, free-set, free-some, marked-set}
 use Rattle.region_file.proofs.Chain.{Linked, linked, chain_some, whole_few, judged_chain}
 
 -- an accepted file, whatever further tests it passed, has no more records than the longest file
@@ -49,14 +49,14 @@ module _ (tests : Record → List Test) (file : List ℕ) where
           simp (ne_eqb n 0 l.some) (record { here = l.link.here; own = l.link.own }, more (also n v) (record_at file n).next l.rest)
 
   -- each number of the chain takes a record that was free, and record 0 stays free
-  chain_free : record_count file ≤ most_records → (links : ℕ) (ms : List ℕ) (n : ℕ) → length ms ≡ most_records → get_or ms 0 0 ≡ 0
+  chain_free : record_count file ≤ most_records → (links : ℕ) (ms : List Bool) (n : ℕ) → length ms ≡ most_records → get_or ms 0 false ≡ false
       → chain_outcome tests file links (marked ms) n ≡ accepted tt → length (numbers file links n) < free ms
   unfolding numbers
   chain_free few zero ms n l z h = absurd (chain_some tests file (marked ms) n h)
   chain_free few (suc links) ms n l z h = go (linked tests file links (marked ms) n h) (chain_free few links)
     where
       go : (n ≡ 0) ⊎ Linked tests file links (marked ms) n
-          → ((ms : List ℕ) (n : ℕ) → length ms ≡ most_records → get_or ms 0 0 ≡ 0
+          → ((ms : List Bool) (n : ℕ) → length ms ≡ most_records → get_or ms 0 false ≡ false
           → chain_outcome tests file links (marked ms) n ≡ accepted tt → length (numbers file links n) < free ms)
           → length (numbers file (suc links) n) < free ms
       go (inl e) more = simp (eq-eqb n 0 e) (free-some ms l z)
@@ -64,8 +64,8 @@ module _ (tests : Record → List Test) (file : List ℕ) where
           let here = p.link.here in
           let next = (record_at file n).next in
           let k : n < length ms = omega (arith, here) in
-          let o : free ms ≡ suc (free (set ms n 1)) = free-set ms n k (unmarked ms n p.link.fresh) in
-          let rest = more (set ms n 1) next (length-set ms n 1 ∙ l) (get_or-set_other ms n 0 1 0 (λ q. p.some (sym q)) ∙ z)
+          let o : free ms ≡ suc (free (set ms n true)) = free-set ms n k p.link.fresh in
+          let rest = more (set ms n true) next (length-set ms n true ∙ l) (get_or-set_other ms n 0 true false (λ q. p.some (sym q)) ∙ z)
           (ap (λ (v : ℕ → Bool). chain_outcome tests file links v next) (marked-set ms n k) ∙ p.rest) in
           simp (ne_eqb n 0 p.some) (omega (arith, rest, o))
 
@@ -75,9 +75,9 @@ module _ (further : Record → List Test) (file : List ℕ) (e : judge_outcome f
 
   pub numbers_few : length (chain_numbers file) ≤ 2047
   numbers_few =
-      let ms : List ℕ = replicate most_records 0 in
+      let ms : List Bool = replicate most_records false in
       let h = ap (λ (v : ℕ → Bool). chain_outcome (loader_tests further file) file most_records v (first_record file)) (marked_fresh most_records)
       ∙ judged_chain further file e in
       let less = chain_free (loader_tests further file) file (few_records further file e) most_records ms (first_record file)
-      (length-replicate {A = ℕ} most_records 0) (fresh_at most_records 0) h in
+      (length-replicate {A = Bool} most_records false) (fresh_at most_records 0) h in
       omega (arith, free_fresh most_records, less)

@@ -5,9 +5,7 @@ use mathlib.Core.Path.{◌≡◌, refl, sym, ap, ap₂, ◌∙◌}
 use mathlib.Core.Bool.{Bool, true, not, cond}
 use mathlib.Core.List.{List, [], ◌∷◌}
 use Prim.Native.Nat.{ℕ, zero, suc, ◌+◌, ◌<◌}
-use native.Mathlib.Nat.{not-suc-le-zero}
 use native.Mathlib.Omega.{arith}
-use borrow.Author.Tests.{eqb-true}
 use lib.Dec.{eqb, lit<}
 use lib.ListN.{get_or}
 use Rattle.ranges.proofs.Tests.{both_hold}
@@ -40,6 +38,7 @@ use Rattle.region_file.specs.Judge.{
 }
 use Rattle.region_file.specs.Base.{base_head_tests, base_record_tests, base_judge_outcome, base_judge_stop}
 use Rattle.region_file.specs.Theorem.{AsBefore}
+use Rattle.region_file.proofs.Zeros.{zero_byte}
 
 -- ---- bytes that are zero
 
@@ -56,18 +55,6 @@ zeros-from file (suc m) n at h =
     let next : at + 1 + m ≡ at + suc m = omega arith in
     let one : suc m + n ≡ suc (m + n) = omega arith in
     ap (zeros file at) one ∙ simp both.0 (more ∙ ap (λ (k : ℕ). zeros file k n) next)
-
--- each of them is zero
-zero_byte : (file : List ℕ) (n at k : ℕ) → zeros file at n ≡ true → k < n → get_or file (at + k) 0 ≡ 0
-unfolding zeros
-zero_byte file zero at k h less = absurd (not-suc-le-zero less)
-zero_byte file (suc n) at zero h less =
-    let here : at + zero ≡ at = omega arith in
-    ap (λ (j : ℕ). get_or file j 0) here ∙ eqb-true (get_or file at 0) 0 (both_hold (eqb (get_or file at 0) 0) (zeros file (at + 1) n) h).0
-zero_byte file (suc n) at (suc k) h less =
-    let there : at + suc k ≡ at + 1 + k = omega arith in
-    ap (λ (j : ℕ). get_or file j 0) there
-    ∙ zero_byte file n (at + 1) k (both_hold (eqb (get_or file at 0) 0) (zeros file (at + 1) n) h).1 (omega arith)
 
 -- and words of them are zero
 pub no_field : (file : List ℕ) → zeros file 8 8 ≡ true → reader_field file ≡ record { width = 0; height = 0 }

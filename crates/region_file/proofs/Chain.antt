@@ -1,7 +1,7 @@
 -- The laws of `chain_outcome` and `whole`, one for each case of the code, and what an accepted link, chain or file has. They hold for every
 -- list of tests of a record.
 -- Assumes nothing.
-use mathlib.Core.Path.{◌≡◌, refl, sym, ◌∙◌}
+use mathlib.Core.Path.{◌≡◌, refl, sym}
 use mathlib.Core.Bool.{Bool, true, false, cond}
 use mathlib.Core.List.{List}
 use mathlib.Core.Logic.{◌⊎◌, inl, inr}
@@ -10,33 +10,28 @@ use native.Mathlib.Nat.{lt_irrefl}
 use native.Mathlib.Omega.{arith}
 use borrow.Author.Tests.{eq-eqb, ne_eqb, eqb-true, eqb-false, leb-false, ltb-false, not-true, not-false}
 use lib.Dec.{eqb}
+use lib.ListN.{length}
 use Rattle.ranges.proofs.Tests.{both_hold}
 use Rattle.refusal.specs.Outcome.{Outcome, accepted, refused, Test, first}
-use Rattle.refusal.proofs.First.{accepted-refused, AllPass, all_pass, refused_before, passed_before, first-append}
+use Rattle.refusal.proofs.First.{accepted-refused, AllPass, all_pass, refused_before, passed_before}
 use Rattle.stage.specs.declared.regions.Field.{Field}
-use Rattle.stage.specs.Region.{within, takes, position_tests}
+use Rattle.stage.specs.Region.{within, takes}
 use Rattle.region_file.specs.declared.records.Record.{Record}
 use Rattle.region_file.specs.Records.{record_bytes, most_bytes, record_at, first_record, record_count, most_records}
 use Rattle.region_file.specs.Judge.{
   whole,
   head_tests,
+  head_outcome,
   most_visits,
   record_tests,
   loader_tests,
   link_tests,
-  record_outcome,
   link_outcome,
   nowhere,
   also,
   chain_outcome,
   judge_outcome,
 }
-
--- 10 and 16 of a record come before its other tests
-pub region-first : (further : Record → List Test) (f : Field) (r : Record) {k : ℕ} {vs : List ℕ}
-    → ◌≡◌ {A = Outcome Unit} (first (position_tests f r.region) (accepted tt)) (refused k vs)
-    → record_outcome (record_tests further f) r ≡ refused k vs
-region-first further f r e = first-append (position_tests f r.region) _ _ ∙ refused_before tt _ (position_tests f r.region) e
 
 -- what a record has that passes the tests of the listing and further ones, with the reader's field f
 pub record Sound (further : Record → List Test) (f : Field) (r : Record) : Type 0 where
@@ -123,6 +118,10 @@ whole_has bytes e =
 
 pub whole_few : (bytes : ℕ) → whole bytes ≡ true → bytes / record_bytes ≤ most_records
 whole_few bytes e = let m = (whole_has bytes e).most in omega (arith, m)
+
+-- a file that passes the tests of its record 0 is whole
+pub head_few : (file : List ℕ) {b : Unit} → head_outcome file ≡ accepted b → record_count file ≤ most_records
+head_few file e = whole_few (length file) (not-false _ (all_pass (accepted tt) (head_tests file) e).0.0)
 
 -- the chain of an accepted file is accepted
 pub judged_chain : (further : Record → List Test) (file : List ℕ) → judge_outcome further file ≡ accepted tt

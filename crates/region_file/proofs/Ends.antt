@@ -16,7 +16,7 @@ use Rattle.region_file.specs.Records.{record_at, record_count, most_records}
 use Rattle.region_file.specs.Judge.{also, link_tests, chain_outcome}
 use Rattle.region_file.specs.Theorem.{ChainsEnd}
 use Rattle.region_file.proofs.Chain.{Passed, passed, whole_few}
-use Rattle.region_file.proofs.Marks.{marked, free, free_fresh, fresh_at, marked_fresh, free-set, free-some, marked-set, unmarked}
+use Rattle.region_file.proofs.Marks.{marked, free, free_fresh, fresh_at, marked_fresh, free-set, free-some, marked-set}
 
 module _ (tests : Record → List Test) (file : List ℕ) (few : record_count file ≤ most_records) where
   -- one link of each, where the rest is the same
@@ -43,7 +43,7 @@ module _ (tests : Record → List Test) (file : List ℕ) (few : record_count fi
       go true e = refl
       go false e = judged (first own (accepted tt)) refl (eqb-false n 0 e)
 
-  same : (f g : ℕ) (ms : List ℕ) (n : ℕ) → length ms ≡ most_records → get_or ms 0 0 ≡ 0 → free ms ≤ f → free ms ≤ g
+  same : (f g : ℕ) (ms : List Bool) (n : ℕ) → length ms ≡ most_records → get_or ms 0 false ≡ false → free ms ≤ f → free ms ≤ g
       → chain_outcome tests file f (marked ms) n ≡ chain_outcome tests file g (marked ms) n
   same zero g ms n l z hf hg = absurd (omega (arith, free-some ms l z))
   same (suc f) zero ms n l z hf hg = absurd (omega (arith, free-some ms l z))
@@ -51,17 +51,18 @@ module _ (tests : Record → List Test) (file : List ℕ) (few : record_count fi
       step f g (marked ms) n (λ ne p.
       let here = p.here in
       let k : n < length ms = omega (arith, here) in
-      let o : free ms ≡ suc (free (set ms n 1)) = free-set ms n k (unmarked ms n p.fresh) in
+      let o : free ms ≡ suc (free (set ms n true)) = free-set ms n k p.fresh in
       let next : ℕ = (record_at file n).next in
       ap (λ (v : ℕ → Bool). chain_outcome tests file f v next) (sym (marked-set ms n k))
-      ∙ same f g (set ms n 1) next (length-set ms n 1 ∙ l) (get_or-set_other ms n 0 1 0 (λ q. ne (sym q)) ∙ z) (omega arith) (omega arith)
+      ∙ same f g (set ms n true) next (length-set ms n true ∙ l) (get_or-set_other ms n 0 true false (λ q. ne (sym q)) ∙ z) (omega arith)
+      (omega arith)
       ∙ ap (λ (v : ℕ → Bool). chain_outcome tests file g v next) (marked-set ms n k))
 
 pub chains_end : ChainsEnd
 chains_end tests file links n w h =
-    let ms : List ℕ = replicate most_records 0 in
+    let ms : List Bool = replicate most_records false in
     let e : free ms ≡ most_records = free_fresh most_records in
     ap (λ (v : ℕ → Bool). chain_outcome tests file links v n) (sym (marked_fresh most_records))
-    ∙ same tests file (whole_few (length file) w) links most_records ms n (length-replicate {A = ℕ} most_records 0) (fresh_at most_records 0)
+    ∙ same tests file (whole_few (length file) w) links most_records ms n (length-replicate {A = Bool} most_records false) (fresh_at most_records 0)
     (omega arith) (omega arith)
     ∙ ap (λ (v : ℕ → Bool). chain_outcome tests file most_records v n) (marked_fresh most_records)

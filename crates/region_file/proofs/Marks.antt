@@ -1,64 +1,57 @@
--- A mark for each record, 0 where no link has named it: the marked records as a function, and the number of those that are free.
--- Assumes nothing.
+-- A mark for each record, set where a link has named it: the marked records as a function, and the number of those that are free.
 use mathlib.Core.Path.{◌≡◌, refl, ap, ◌∙◌}
-use mathlib.Core.Bool.{Bool, true, false, not, ◌||◌}
+use mathlib.Core.Bool.{Bool, true, false, ◌||◌}
 use mathlib.Core.List.{List, [], ◌∷◌}
 use Prim.Native.Nat.{ℕ, zero, suc, ◌<◌}
 use native.Mathlib.Nat.{not-suc-le-zero, le_of_suc-le-suc}
 use native.Mathlib.Omega.{arith}
-use borrow.Author.Tests.{eqb-true, eqb-false, not-false}
+use borrow.Author.Tests.{eqb-true, eqb-false}
 use lib.Dec.{eqb}
 use lib.ListN.{length, get_or, set, replicate}
 use lib.Seq.{get_or-set_same, get_or-set_other}
 use Rattle.region_file.specs.Records.{most_records}
 use Rattle.region_file.specs.Judge.{nowhere, also}
 
--- record k is marked
-unfoldable pub marked : List ℕ → ℕ → Bool
-marked marks k = not (eqb (get_or marks k 0) 0)
+-- record k is marked; past the end of the marks none is
+abbrev pub marked : List Bool → ℕ → Bool
+marked marks k = get_or marks k false
 
 -- the number of records that are not
-unfoldable pub free : List ℕ → ℕ
+unfoldable pub free : List Bool → ℕ
 free [] = zero
-free (zero ∷ ms) = suc (free ms)
-free (suc m ∷ ms) = free ms
+free (false ∷ ms) = suc (free ms)
+free (true ∷ ms) = free ms
 
-pub free_fresh : (n : ℕ) → free (replicate n 0) ≡ n
+pub free_fresh : (n : ℕ) → free (replicate n false) ≡ n
 unfolding free
 free_fresh zero = refl
 free_fresh (suc n) = ap suc (free_fresh n)
 
-pub fresh_at : (n k : ℕ) → ◌≡◌ {A = ℕ} (get_or (replicate n 0) k 0) 0
+pub fresh_at : (n k : ℕ) → ◌≡◌ {A = Bool} (get_or (replicate n false) k false) false
 fresh_at zero k = refl
 fresh_at (suc n) zero = refl
 fresh_at (suc n) (suc k) = fresh_at n k
 
-pub marked_fresh : (n : ℕ) → marked (replicate n 0) ≡ nowhere
-unfolding marked
-marked_fresh n i k = ap (λ (m : ℕ). not (eqb m 0)) (fresh_at n k) i
+pub marked_fresh : (n : ℕ) → marked (replicate n false) ≡ nowhere
+marked_fresh n i k = fresh_at n k i
 
-pub free-set : (ms : List ℕ) (k : ℕ) → k < length ms → get_or ms k 0 ≡ 0 → free ms ≡ suc (free (set ms k 1))
+pub free-set : (ms : List Bool) (k : ℕ) → k < length ms → get_or ms k false ≡ false → free ms ≡ suc (free (set ms k true))
 unfolding free
 free-set [] k h e = absurd (not-suc-le-zero h)
-free-set (zero ∷ ms) zero h e = refl
-free-set (suc m ∷ ms) zero h e = absurd (omega arith)
-free-set (zero ∷ ms) (suc k) h e = ap suc (free-set ms k (le_of_suc-le-suc h) e)
-free-set (suc m ∷ ms) (suc k) h e = free-set ms k (le_of_suc-le-suc h) e
+free-set (false ∷ ms) zero h e = refl
+free-set (true ∷ ms) zero h e = cc
+free-set (false ∷ ms) (suc k) h e = ap suc (free-set ms k (le_of_suc-le-suc h) e)
+free-set (true ∷ ms) (suc k) h e = free-set ms k (le_of_suc-le-suc h) e
 
-pub free-some : (ms : List ℕ) → length ms ≡ most_records → get_or ms 0 0 ≡ 0 → 0 < free ms
+pub free-some : (ms : List Bool) → length ms ≡ most_records → get_or ms 0 false ≡ false → 0 < free ms
 free-some ms l e = omega (arith, free-set ms 0 (omega arith) e)
 
-mark_at : (ms : List ℕ) (n k : ℕ) → n < length ms → marked (set ms n 1) k ≡ also n (marked ms) k
-unfolding marked
+mark_at : (ms : List Bool) (n k : ℕ) → n < length ms → marked (set ms n true) k ≡ also n (marked ms) k
 mark_at ms n k h = go (eqb k n) refl
   where
-    go : (b : Bool) → eqb k n ≡ b → not (eqb (get_or (set ms n 1) k 0) 0) ≡ (b || not (eqb (get_or ms k 0) 0))
-    go true e = ap (λ (m : ℕ). not (eqb m 0)) (ap (λ (j : ℕ). get_or (set ms n 1) j 0) (eqb-true k n e) ∙ get_or-set_same ms n 1 0 h)
-    go false e = ap (λ (m : ℕ). not (eqb m 0)) (get_or-set_other ms n k 1 0 (eqb-false k n e))
+    go : (b : Bool) → eqb k n ≡ b → get_or (set ms n true) k false ≡ (b || get_or ms k false)
+    go true e = ap (λ (j : ℕ). get_or (set ms n true) j false) (eqb-true k n e) ∙ get_or-set_same ms n true false h
+    go false e = get_or-set_other ms n k true false (eqb-false k n e)
 
-pub marked-set : (ms : List ℕ) (n : ℕ) → n < length ms → marked (set ms n 1) ≡ also n (marked ms)
+pub marked-set : (ms : List Bool) (n : ℕ) → n < length ms → marked (set ms n true) ≡ also n (marked ms)
 marked-set ms n h i k = mark_at ms n k h i
-
-pub unmarked : (ms : List ℕ) (n : ℕ) → marked ms n ≡ false → get_or ms n 0 ≡ 0
-unfolding marked
-unmarked ms n e = eqb-true (get_or ms n 0) 0 (not-false (eqb (get_or ms n 0) 0) e)

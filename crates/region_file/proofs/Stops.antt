@@ -2,7 +2,7 @@
 -- that the links do not run out before.
 -- Assumes nothing.
 use mathlib.Core.Path.{◌≡◌, refl, sym, ap, ◌∙◌}
-use mathlib.Core.Bool.{Bool}
+use mathlib.Core.Bool.{Bool, true, false}
 use mathlib.Core.List.{List}
 use mathlib.Core.Logic.{◌⊎◌, inl, inr}
 use Prim.Native.Nat.{ℕ, zero, suc, ◌≤◌, ◌<◌}
@@ -20,7 +20,7 @@ use Rattle.region_file.specs.Chain.{link_at}
 use Rattle.region_file.specs.Judge.{head_tests, loader_tests, head_outcome, link_outcome, also, chain_outcome, chain_stop}
 use Rattle.region_file.specs.Theorem.{named_before, outcome_at, StopsAt, Stops}
 use Rattle.region_file.proofs.Chain.{passed, chain_end, chain_refused, chain_next, whole_few}
-use Rattle.region_file.proofs.Marks.{marked, free, free_fresh, fresh_at, marked_fresh, free-set, free-some, marked-set, unmarked}
+use Rattle.region_file.proofs.Marks.{marked, free, free_fresh, fresh_at, marked_fresh, free-set, free-some, marked-set}
 use Rattle.region_file.proofs.Stop.{stop-end, stop-refused, stop-next, head-refused, head_passed}
 
 module _ (tests : Record → List Test) (file : List ℕ) where
@@ -56,7 +56,7 @@ module _ (tests : Record → List Test) (file : List ℕ) where
 
   -- with so many links, where no more records are free and every link before passes
   abbrev Found : ℕ → Type 0
-  Found links = (j : ℕ) (ms : List ℕ) → length ms ≡ most_records → get_or ms 0 0 ≡ 0 → free ms ≤ links → marked ms ≡ named_before file j
+  Found links = (j : ℕ) (ms : List Bool) → length ms ≡ most_records → get_or ms 0 false ≡ false → free ms ≤ links → marked ms ≡ named_before file j
       → ((i : ℕ) → i < j → Passes i) → (k : ℕ) × StopsFrom links j k
 
   module _ (few : record_count file ≤ most_records) where
@@ -72,10 +72,10 @@ module _ (tests : Record → List Test) (file : List ℕ) where
             let p = (passed tests file (named_before file j (named j)) (named j) e).0 in
             let o = p.here in
             let k : named j < length ms = omega (arith, o) in
-            let clear = unmarked ms (named j) (ap (λ (v : ℕ → Bool). v (named j)) m ∙ p.fresh) in
-            let taken : free ms ≡ suc (free (set ms (named j) 1)) = free-set ms (named j) k clear in
-            let r = more (suc j) (set ms (named j) 1) (length-set ms (named j) 1 ∙ l)
-            (get_or-set_other ms (named j) 0 1 0 (λ q. ne (sym q)) ∙ z) (omega arith)
+            let clear = ap (λ (v : ℕ → Bool). v (named j)) m ∙ p.fresh in
+            let taken : free ms ≡ suc (free (set ms (named j) true)) = free-set ms (named j) k clear in
+            let r = more (suc j) (set ms (named j) true) (length-set ms (named j) true ∙ l)
+            (get_or-set_other ms (named j) 0 true false (λ q. ne (sym q)) ∙ z) (omega arith)
             (marked-set ms (named j) k ∙ ap (also (named j)) m)
             (one_more j earlier (ne, at_record j ne ∙ e)) in
             let s = r.1 in (
@@ -116,9 +116,9 @@ unfolding link_at named_before
 stops_at further file h =
     let heads : AllPass (head_tests file) = (all_pass (accepted tt) (head_tests file) h).0 in
     let few = whole_few (length file) (not-false _ heads.0) in
-    let ms : List ℕ = replicate most_records 0 in
+    let ms : List Bool = replicate most_records false in
     let fresh : free ms ≡ most_records = free_fresh most_records in
-    let r = from (loader_tests further file) file few most_records 0 ms (length-replicate {A = ℕ} most_records 0)
+    let r = from (loader_tests further file) file few most_records 0 ms (length-replicate {A = Bool} most_records false)
     (fresh_at most_records 0) (omega arith) (marked_fresh most_records) (λ i less. absurd (not-suc-le-zero less)) in
     let s = r.1 in
     let judged = head_passed further file h in

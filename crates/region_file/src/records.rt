@@ -1,5 +1,5 @@
 // The records of a file, word by word. Bytes past its end count as 0, so every number names a record.
-ghost use Rattle.std.specs.Prelude.{◌≡◌, ◌<◌, get_or};
+ghost use Rattle.std.specs.Prelude.{◌≡◌, get_or};
 ghost use Rattle.region_file.specs.Records.{record_word, record_at, first_record, reader_field, record_count};
 
 use plan::Shift;
@@ -24,49 +24,42 @@ pub struct Record {
     pub count: u32,
 }
 
-// A byte as a word. As a function of its own it spares its callers the proof that a byte fits.
-fn wide(b: u8) -> u32
-    ensures { (result ≡ b) × (result < 256) }
-{
-    b as u32
-}
-
 // Byte `at`, or 0 past the end.
-fn byte_at(file: &[u8], at: usize) -> u32
-    ensures { (result ≡ get_or file.now at 0) × (result < 256) }
+fn byte_at(file: &[u8], at: usize) -> u8
+    ensures { result ≡ get_or file.now at 0 }
 {
-    if at < file.len() {
-        return wide(file[at]);
-    }
-    0
+    file.get(at).copied().unwrap_or(0)
 }
 
-// Word k of record n: four bytes, the lowest first, so each weighs 256 times the one before it.
+// Word k of record n: four bytes, the lowest first.
+#[tactic(auto, unfolding(crate::specs::Records::word_at))]
 pub(crate) fn record_word(file: &[u8], n: u32, k: u32) -> u32
     ensures { result ≡ record_word file.now n k }
 {
     let at = n as usize * RECORD_BYTES + k as usize * WORD_BYTES;
-    byte_at(file, at)
-        + byte_at(file, at + 1) * 256
-        + byte_at(file, at + 2) * 65536
-        + byte_at(file, at + 3) * 16777216
+    u32::from_le_bytes([
+        byte_at(file, at),
+        byte_at(file, at + 1),
+        byte_at(file, at + 2),
+        byte_at(file, at + 3),
+    ])
 }
 
 // The region of record n, its words 1 to 4.
+#[tactic(auto, unfolding(crate::specs::Records::record_at))]
 fn region_at(file: &[u8], n: u32) -> Region
     ensures { result ≡ (record_at file.now n).region }
 {
-    let left = record_word(file, n, 1);
-    let top = record_word(file, n, 2);
     Region {
-        left: cast_signed(left),
-        top: cast_signed(top),
+        left: cast_signed(record_word(file, n, 1)),
+        top: cast_signed(record_word(file, n, 2)),
         width: record_word(file, n, 3),
         height: record_word(file, n, 4),
     }
 }
 
 // Record n. Where the file does not have it, its missing bytes count as 0.
+#[tactic(auto, unfolding(crate::specs::Records::record_at))]
 pub fn record_at(file: &[u8], n: u32) -> Record
     ensures { result ≡ record_at file.now n }
 {
@@ -89,6 +82,7 @@ pub fn first_record(file: &[u8]) -> u32
 }
 
 // The reader's field, words 2 and 3 of record 0.
+#[tactic(auto, unfolding(crate::specs::Records::reader_field))]
 pub fn reader_field(file: &[u8]) -> Field
     ensures { result ≡ reader_field file.now }
 {

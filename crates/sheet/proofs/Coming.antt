@@ -1,13 +1,12 @@
 -- What is to come from a cursor, line by line: a heading, the lines for visits, the number of the page, and what follows the page.
 -- Assumes nothing.
+use Rattle.std.specs.Prelude.{Option, Some, None}
 use Rattle.std.proofs.Common.{◌≡◌, ℕ, zero, suc, ◌+◌, ◌/◌, ◌%◌, ◌^◌, ◌<◌, ◌≤◌, List, [], ◌∷◌, ◌++◌, length, drop, sym, refl, ap, ◌∙◌, ap₂}
 use Rattle.std.proofs.Common.{append_assoc, append-nil, add-one, arith, length-drop}
 use lib.Seq.{drop-nil}
 use Rattle.ranges.specs.Range.{range}
 use Rattle.visits.specs.declared.file_walks.FileVisit.{FileVisit}
 use Rattle.visits.specs.declared.file_walks.FileWalk.{FileWalk}
-use Rattle.visits.specs.declared.file_walks.FileStep.{FileStep}
-use Rattle.visits.specs.declared.file_walks.FileStep.TheVariants as step
 use Rattle.visits.specs.FileWalk.{visits_to_come, Gives}
 use Rattle.text.specs.Pieces.{join}
 use Rattle.listing.specs.Listing.{refused_text}
@@ -20,17 +19,17 @@ use Rattle.sheet.specs.Lines.{step_line, after_number}
 
 module _ (file : List ℕ) (p q : FileWalk) where
   -- the line of a step is the first of those for the visits to come, and the others are for the visits to come after it
-  visit_lines-more : (s : FileStep) → Gives file p s q → (n : ℕ)
+  visit_lines-more : (s : Option FileVisit) → Gives file p s q → (n : ℕ)
       → join (visit_lines (suc n) (visits_to_come file p)) ≡ step_line s ++ join (visit_lines n (visits_to_come file q))
   unfolding visit_lines
-  visit_lines-more (step.Visited v) g n = ap (λ (vs : List FileVisit). join (visit_lines (suc n) vs)) g
-  visit_lines-more step.Ended g n =
+  visit_lines-more (Some v) g n = ap (λ (vs : List FileVisit). join (visit_lines (suc n) vs)) g
+  visit_lines-more None g n =
       ap (λ (vs : List FileVisit). join (visit_lines (suc n) vs)) g.0
       ∙ ap (λ (vs : List FileVisit). blank_line ++ join (visit_lines n vs)) (sym g.1)
 
-  drop_more : (s : FileStep) → Gives file p s q → (n : ℕ) → drop (suc n) (visits_to_come file p) ≡ drop n (visits_to_come file q)
-  drop_more (step.Visited v) g n = ap (drop (suc n)) g
-  drop_more step.Ended g n = ap (drop (suc n)) g.0 ∙ sym (drop-nil n) ∙ ap (drop n) (sym g.1)
+  drop_more : (s : Option FileVisit) → Gives file p s q → (n : ℕ) → drop (suc n) (visits_to_come file p) ≡ drop n (visits_to_come file q)
+  drop_more (Some v) g n = ap (drop (suc n)) g
+  drop_more None g n = ap (drop (suc n)) g.0 ∙ sym (drop-nil n) ∙ ap (drop n) (sym g.1)
 
 -- ---- the numbers of pages
 
@@ -112,7 +111,7 @@ heading-first k vs h =
     ap (λ (j : ℕ). heading ++ (join (visit_lines page_visits vs) ++ (page_line j ++ after_page k (drop page_visits vs)))) e
     ∙ sym (pages_from_is k vs)
 
-pub line_first : (file : List ℕ) (p q : FileWalk) (s : FileStep) → Gives file p s q → (n k : ℕ)
+pub line_first : (file : List ℕ) (p q : FileWalk) (s : Option FileVisit) → Gives file p s q → (n k : ℕ)
     → step_line s ++ from_place (place.Lines n) k (visits_to_come file q) ≡ from_place (place.Lines (suc n)) k (visits_to_come file p)
 unfolding from_place
 line_first file p q s g n k =
@@ -122,17 +121,17 @@ line_first file p q s g n k =
     (sym (drop_more file p q s g n))
 
 -- after the number of a page
-after_comes : (file : List ℕ) (p q : FileWalk) (s : FileStep) → Gives file p s q → (k : ℕ)
+after_comes : (file : List ℕ) (p q : FileWalk) (s : Option FileVisit) → Gives file p s q → (k : ℕ)
     → sheet_to_come file (after_number s k p) ≡ after_page k (visits_to_come file p)
 unfolding from_place after_page
-after_comes file p q (step.Visited v) g k =
+after_comes file p q (Some v) g k =
     ap (pages_from ((k + 1) % 2 ^ 32)) g
     ∙ ap (λ (j : ℕ). pages_from (j % 2 ^ 32) (v ∷ visits_to_come file q)) (add-one k)
     ∙ pages_from-word k (v ∷ visits_to_come file q)
     ∙ ap (after_page k) (sym g)
-after_comes file p q step.Ended g k = ap (after_page k) (sym g.0)
+after_comes file p q None g k = ap (after_page k) (sym g.0)
 
-pub number-first : (file : List ℕ) (p q : FileWalk) (s : FileStep) → Gives file p s q → (k : ℕ)
+pub number-first : (file : List ℕ) (p q : FileWalk) (s : Option FileVisit) → Gives file p s q → (k : ℕ)
     → page_line k ++ sheet_to_come file (after_number s k p) ≡ from_place (place.Lines 0) k (visits_to_come file p)
 unfolding from_place visit_lines
 number-first file p q s g k = ap (λ (t : List ℕ). page_line k ++ t) (after_comes file p q s g k)

@@ -1,9 +1,8 @@
 -- Every line of a sheet has room where the listing's longest line has, whatever the fields of its visit, and none is empty.
 -- Assumes nothing.
+use Rattle.std.specs.Prelude.{Option, Some, None}
 use Rattle.std.proofs.Common.{ℕ, ◌<◌, ◌≤◌, List, [], ◌∷◌, ◌++◌, length, arith, length-append}
 use Rattle.visits.specs.declared.file_walks.FileVisit.{FileVisit}
-use Rattle.visits.specs.declared.file_walks.FileStep.{FileStep}
-use Rattle.visits.specs.declared.file_walks.FileStep.TheVariants as step
 use Rattle.text.specs.Ascii.{line_feed, blank}
 use Rattle.text.specs.Decimal.{decimal, signed_decimal, number_text, longest_number, longest_signed}
 use Rattle.text.specs.Columns.{right, aligned}
@@ -36,10 +35,10 @@ visit-short v =
     (number-aligned_longest 4 v.number blank) (number-aligned_longest 4 v.index blank) (signed_aligned_longest 8 v.x blank)
     (signed_aligned_longest 8 v.y line_feed)
 
-pub step-short : (s : FileStep) → length (step_line s) ≤ longest_line
+pub step-short : (s : Option FileVisit) → length (step_line s) ≤ longest_line
 unfolding across right
-step-short (step.Visited v) = visit-short v
-step-short step.Ended = omega arith
+step-short (Some v) = visit-short v
+step-short None = omega arith
 
 -- ---- and none is empty
 
@@ -66,7 +65,7 @@ heading-some = row-some _ _ _ _
 pub page-some : (k : ℕ) → 0 < length (page_line k)
 page-some k = across-some (decimal k)
 
-pub step-some : (s : FileStep) → 0 < length (step_line s)
+pub step-some : (s : Option FileVisit) → 0 < length (step_line s)
 unfolding visit_line
-step-some (step.Visited v) = row-some _ _ _ _
-step-some step.Ended = across-some []
+step-some (Some v) = row-some _ _ _ _
+step-some None = across-some []

@@ -70,7 +70,7 @@ pub record SheetOf (file : List ℕ) (vs : List FileVisit) : Type 0 where
   pub numbered : (p : ℕ) → p < page_count (length vs) → take 50 (drop (p * 50) (sheet_lines vs)) ≡ page (p + 1) (drop (p * page_visits) vs)
   pub reads_back : read_back (sheet file) ≡ listing file
 
--- calls of `piece` one after the other, each from the cursor that the one before handed back, with any buffers
+-- calls of `piece` one after the other, each from the cursor that the one before left, with any buffers
 abbrev pub SheetPieces : List ℕ → Cursor → List (List ℕ) → Cursor → Type 0
 SheetPieces file = Pieces (sheet_to_come file) longest_line
 

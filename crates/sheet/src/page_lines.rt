@@ -5,7 +5,7 @@ ghost use Rattle.listing.specs.Listing.{longest_line};
 ghost use Rattle.sheet.specs.Sheet.{heading, visit_line, page_line};
 ghost use Rattle.sheet.specs.Lines.{step_line};
 
-use visits::{FileStep, FileVisit};
+use visits::FileVisit;
 
 // The words rec, vis, x and y above the columns of a page.
 pub(crate) fn put_heading(out: &mut [u8], at: usize) -> usize
@@ -33,20 +33,18 @@ fn put_visit(visit: FileVisit, out: &mut [u8], at: usize) -> usize
 {
     let second = text::right_number(visit.number, 4, b' ', out, at);
     let third = text::right_number(visit.index, 4, b' ', out, second);
-    let x = visit.x;
-    let fourth = text::right_signed_number(x, 8, b' ', out, third);
-    let y = visit.y;
-    text::right_signed_number(y, 8, b'\n', out, fourth)
+    let fourth = text::right_number(visit.x, 8, b' ', out, third);
+    text::right_number(visit.y, 8, b'\n', out, fourth)
 }
 
 // The line of the visit that a step gave, or a blank one where it gave none.
-pub(crate) fn put_step(answer: FileStep, out: &mut [u8], at: usize) -> usize
+pub(crate) fn put_step(given: Option<FileVisit>, out: &mut [u8], at: usize) -> usize
     requires { at + longest_line ≤ length out.old }
-    ensures end { result ≡ at + length (step_line answer) }
-    ensures text { out.new ≡ put out.old at (step_line answer) }
+    ensures end { result ≡ at + length (step_line given) }
+    ensures text { out.new ≡ put out.old at (step_line given) }
 {
-    match answer {
-        FileStep::Visited(visit) => put_visit(visit, out, at),
-        FileStep::Ended => text::bytes(b"                           \n", out, at),
+    match given {
+        Some(visit) => put_visit(visit, out, at),
+        None => text::bytes(b"                           \n", out, at),
     }
 }

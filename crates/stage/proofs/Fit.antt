@@ -1,8 +1,9 @@
 -- The reader's field and the places that its corner may take: how many they are, and that they are a region within its limits.
 -- Assumes nothing.
+use Rattle.std.specs.Prelude.{Result, Ok, Err, is_ok}
 use mathlib.Core.Path.{◌≡◌, refl, sym, ap, ap₂, ◌∙◌}
 use mathlib.Core.Bool.{Bool, true, false, not, ◌&&◌, true≢false}
-use mathlib.Core.List.{List, [], ◌∷◌}
+use mathlib.Core.List.{[], ◌∷◌}
 use mathlib.Core.Logic.{◌⊎◌, inl, inr, ◌≢◌}
 use Prim.Native.Nat.{ℕ, ◌≤◌, ◌<◌}
 use native.Mathlib.Omega.{arith}
@@ -11,11 +12,13 @@ use lib.Dec.{leb}
 use Rattle.ranges.proofs.Order.{eq_or_ne}
 use Rattle.ranges.proofs.Tests.{both_hold}
 use Rattle.refusal.specs.Outcome.{Outcome, accepted, refused, first}
+use Rattle.refusal.specs.Refusal.{of_judgement}
+use Rattle.refusal.specs.declared.Refusal.{Refusal}
 use Rattle.refusal.proofs.First.{first-none, first-refuses, first_passes, accepted-refused, all_pass}
 use Rattle.stage.specs.declared.regions.Field.{Field}
 use Rattle.stage.specs.declared.regions.Region.{Region}
 use Rattle.stage.specs.Field.{field_extent, span}
-use Rattle.stage.specs.Region.{within, takes, outside, position_tests, corners}
+use Rattle.stage.specs.Region.{within, takes, outside, position_tests, corners, corner_outcome, position_outcome}
 use Rattle.stage.proofs.Limits.{within_has, within-from}
 
 -- 0 counts as 1, and every other word as itself
@@ -135,19 +138,26 @@ pub pass_both : {A : Type 0} (after : Outcome A) (f : Field) (r : Region) → wi
     → first (position_tests f r) after ≡ after
 pass_both after f r i t = first_passes after 10 _ (ap not i) ∙ first_passes after 16 [] (ap not t) ∙ first-none after
 
--- both tests as one
-pub judged-accepted : {A : Type 0} (a : A) {b : A} (f : Field) (r : Region) → first (position_tests f r) (accepted a) ≡ accepted b
-    → (within r && takes f r) ≡ true
-judged-accepted a f r e = let p = both_pass (accepted a) f r e in ap₂ (λ (s t : Bool). s && t) p.0 p.1
+-- a judged region, asked for the corner of the field
+pub placed : (f : Field) (r : Region) (x y : ℕ) (judged : Result Unit Refusal) → of_judgement judged ≡ first (position_tests f r) (accepted tt)
+    → (u : Unit) → judged ≡ Ok u → corner_outcome (corners f r) x y ≡ position_outcome f r x y
+placed f r x y judged is u was =
+    let p = both_pass (accepted tt) f r (sym is ∙ ap of_judgement was) in
+    first_passes _ 10 [] (ap not (corners-within f r p.0 p.1)) ∙ first-none _ ∙ sym (pass_both _ f r p.0 p.1)
 
-pub judged-refused : {A : Type 0} (a : A) (f : Field) (r : Region) {k : ℕ} {vs : List ℕ} → first (position_tests f r) (accepted a) ≡ refused k vs
-    → (within r && takes f r) ≡ false
-judged-refused a f r e = go (within r) refl (takes f r) refl
+-- whether both pass
+pub accepts : (f : Field) (r : Region) (judged : Result Unit Refusal) → of_judgement judged ≡ first (position_tests f r) (accepted tt)
+    → is_ok judged ≡ (within r && takes f r)
+accepts f r judged is = go judged is
   where
-    go : (s : Bool) → within r ≡ s → (t : Bool) → takes f r ≡ t → (within r && takes f r) ≡ false
-    go true i true k = absurd (accepted-refused (sym (pass_both (accepted a) f r i k) ∙ e))
-    go true i false k = ap₂ (λ (s t : Bool). s && t) i k
-    go false i t k = ap (λ (s : Bool). s && takes f r) i
+    go : (j : Result Unit Refusal) → of_judgement j ≡ first (position_tests f r) (accepted tt) → is_ok j ≡ (within r && takes f r)
+    go (Ok u) e = let p = both_pass (accepted tt) f r (sym e) in sym (ap₂ (λ (s t : Bool). s && t) p.0 p.1)
+    go (Err why) e = sym (split (within r) refl (takes f r) refl)
+      where
+        split : (s : Bool) → within r ≡ s → (t : Bool) → takes f r ≡ t → (within r && takes f r) ≡ false
+        split true i true k = absurd (accepted-refused (sym (pass_both (accepted tt) f r i k) ∙ sym e))
+        split true i false k = ap₂ (λ (s t : Bool). s && t) i k
+        split false i t k = ap (λ (s : Bool). s && takes f r) i
 
 -- a field of 0 or 1 is never too large: the region's limits decide alone
 pub tests-least : {A : Type 0} (after : Outcome A) (f : Field) (r : Region) → f.width ≤ 1 → f.height ≤ 1

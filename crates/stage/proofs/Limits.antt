@@ -1,7 +1,7 @@
 -- The limits of a region, one by one, and edges and positions as the machine reads them back.
 -- Assumes nothing.
-use mathlib.Core.Path.{◌≡◌, sym, ap, ◌∙◌}
-use mathlib.Core.Bool.{Bool, true, not}
+use mathlib.Core.Path.{◌≡◌, ap, ◌∙◌}
+use mathlib.Core.Bool.{true, not}
 use Prim.Native.Nat.{ℕ, ◌≤◌, ◌<◌}
 use borrow.Author.Tests.{ltb-false, le-ltb, not-true}
 use lib.Dec.{ltb}
@@ -11,22 +11,12 @@ use mir.Val.{SFits, of_z, to_z}
 use mir.ValLaws.{to_z-of_z}
 use Rattle.ranges.proofs.Tests.{both_hold}
 use Rattle.stage.specs.declared.regions.Region.{Region}
-use Rattle.stage.specs.Position.{edge_within, extent_within, position, largest_extent}
+use Rattle.stage.specs.Position.{edge_within, extent_within, largest_extent}
 use Rattle.stage.specs.Region.{within}
-use Rattle.stage.proofs.Sums.{read_back}
 
--- an answer about an edge, as the caller has the edge
-pub edge_told : (b : Bool) {r : Bool} (e : ℤ) → SFits w32 e → r ≡ edge_within (to_z w32 (of_z w32 e)) → r ≡ b → edge_within e ≡ b
-edge_told b e f p q = read_back edge_within b e f (sym p ∙ q)
-
--- and back: what the machine reads of an edge is that edge
+-- what the machine reads of an edge is that edge
 pub edge_read : (e : ℤ) → SFits w32 e → edge_within e ≡ true → edge_within (to_z w32 (of_z w32 e)) ≡ true
 edge_read e f p = ap edge_within (to_z-of_z w32 e f) ∙ p
-
--- a position, as the machine hands it on, of an edge that the machine has read
-pub position_told : {z : ℤ} (e : ℤ) (x w : ℕ) → SFits w32 e → SFits w32 z → z ≡ position (to_z w32 (of_z w32 e)) x w
-    → to_z w32 (of_z w32 z) ≡ position e x w
-position_told {z} e x w f g p = to_z-of_z w32 z g ∙ p ∙ ap (λ (y : ℤ). position y x w) (to_z-of_z w32 e f)
 
 extent_some : (x : ℕ) → extent_within x ≡ true → 0 < x
 extent_some x e = ltb-false x 1 (not-true _ (both_hold (not (ltb x 1)) (not (ltb largest_extent x)) e).0)

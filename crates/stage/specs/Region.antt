@@ -1,12 +1,9 @@
 -- Regions of the stage: their limits, the reader's field in them, and the outcome of a position call.
 use Rattle.std.specs.Prelude.{Bool, not, ◌&&◌, List, [], ◌∷◌, ℕ}
 use Rattle.refusal.specs.Outcome.{Outcome, accepted, Test, first}
-use Rattle.refusal.specs.Refusal.{of_refusal}
 use Rattle.stage.specs.declared.regions.Region.{Region}
 use Rattle.stage.specs.declared.regions.Field.{Field}
 use Rattle.stage.specs.declared.regions.Position.{Position}
-use Rattle.stage.specs.declared.regions.Placed.{Placed}
-use Rattle.stage.specs.declared.regions.Placed.TheVariants as placed
 use Rattle.stage.specs.Position.{edge_within, extent_within, position}
 use Rattle.stage.specs.Field.{fits_in, span}
 
@@ -46,8 +43,3 @@ corner_outcome r x y = first (outside r ∷ []) (accepted (position_in r x y))
 -- outside its limits and then a field that is too large are refused.
 abbrev pub position_outcome : Field → Region → ℕ → ℕ → Outcome Position
 position_outcome f r x y = first (position_tests f r) (accepted (position_in (corners f r) x y))
-
--- the outcome that the code's answer stands for
-abbrev pub of_placed : Placed → Outcome Position
-of_placed (placed.At p) = accepted p
-of_placed (placed.Refused why) = of_refusal why

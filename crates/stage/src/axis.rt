@@ -18,36 +18,22 @@ const SCALE: u64 = 4294967296;
 pub(crate) fn edge_within(edge: i32) -> bool
     ensures { result ≡ edge_within edge }
 {
-    if edge < SMALLEST_EDGE {
-        return false;
-    }
-    if edge > LARGEST_EDGE {
-        return false;
-    }
-    true
+    (SMALLEST_EDGE..=LARGEST_EDGE).contains(&edge)
 }
 
 // Whether a width or a height is within its limits.
 pub(crate) fn extent_within(extent: u32) -> bool
     ensures { result ≡ extent_within extent }
 {
-    if extent < 1 {
-        return false;
-    }
-    if extent > LARGEST_EXTENT {
-        return false;
-    }
-    true
+    (1..=LARGEST_EXTENT).contains(&extent)
 }
 
 // How far a field reaches along the axis: 0 counts as 1.
+#[tactic(auto, unfolding(crate::specs::Field::field_extent))]
 fn field_extent(word: u32) -> u32
     ensures { result ≡ field_extent word }
 {
-    if word == 0 {
-        return 1;
-    }
-    word
+    word.max(1)
 }
 
 // Whether a field is no larger than the extent.
@@ -57,16 +43,13 @@ pub(crate) fn fits_in(extent: u32, word: u32) -> bool
     field_extent(word) <= extent
 }
 
-// The number of places that the corner of a field may take: none where the field is larger than the extent. The comparison comes before
-// the difference, which would wrap.
+// The number of places that the corner of a field may take: none where the field is larger than the extent. A difference below 0 is
+// no place, and does not wrap.
+#[tactic(auto, using(crate::proofs::Fit::field_extent_pos))]
 pub(crate) fn span(extent: u32, word: u32) -> u32
     ensures { result ≡ span extent word }
 {
-    let size = field_extent(word);
-    if extent < size {
-        return 0;
-    }
-    extent - size + 1
+    extent.saturating_sub(field_extent(word) - 1)
 }
 
 // The distance of a coordinate from the edge. The product of two words fits in 64 bits. Both numbers are unsigned, so the division
@@ -83,6 +66,5 @@ pub(crate) fn position(edge: i32, extent: u32, word: u32) -> i32
     requires extent_le_largest_extent { extent ≤ largest_extent }
     ensures { result ≡ position edge extent word }
 {
-    let distance = offset(word, extent);
-    edge + distance as i32
+    edge + offset(word, extent) as i32
 }

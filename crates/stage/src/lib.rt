@@ -4,4 +4,4 @@
 mod axis;
 mod regions;
 
-pub use regions::{Field, Placed, Position, Region};
+pub use regions::{Field, Position, Region};

@@ -1,5 +1,6 @@
 pub mod LedBack
 pub mod Cell
+pub mod Mapped
 pub mod Tests
 pub mod Outcomes
 pub mod Answered

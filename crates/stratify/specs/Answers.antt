@@ -3,7 +3,6 @@ use Rattle.std.specs.Prelude.{◌≡◌, ◌||◌, List, [], ◌∷◌, ℕ, ◌
 use Rattle.net.specs.Check.{Verdict, passed, first_bad, check}
 use Rattle.net.specs.Query.{Location, found, bad_shape, locate}
 use Rattle.refusal.specs.Outcome.{Outcome, accepted, not_net, Test, first}
-use Rattle.refusal.specs.Refusal.{of_refusal}
 use Rattle.word.specs.Index.{index_bits}
 use Rattle.flips.specs.declared.sets.Flips.{Flips}
 use Rattle.flips.specs.Load.{not_flips, unused_set, flips_outcome}
@@ -11,8 +10,6 @@ use Rattle.plan.specs.declared.pair.Plan.{Plan}
 use Rattle.plan.specs.declared.points.Shift.{Shift}
 use Rattle.plan.specs.declared.points.Scramble.{Scramble}
 use Rattle.plan.specs.Pair.{generators, scrambling, loaded, not_a_pair, unknown_level}
-use Rattle.stratify.specs.declared.queries.Located.{Located}
-use Rattle.stratify.specs.declared.queries.Located.TheVariants as located
 
 -- ---- the check
 
@@ -58,11 +55,6 @@ of_location m a (bad_shape j) = not_net m a j
 abbrev pub query_outcome : Plan → Scramble → (level m a k c r : ℕ) → Outcome ℕ
 query_outcome P s level m a k c r =
     first (query_tests s.flips level m a k c r) (of_location m a (locate (generators P) (scrambling s) m a k c r))
-
--- the code's answer
-abbrev pub of_located : Located → Outcome ℕ
-of_located (located.Found i) = accepted i
-of_located (located.Refused r) = of_refusal r
 
 -- ---- what the refusals let through
 

@@ -1,60 +1,46 @@
 // The tests that come before 3, of a query and of an overview's first cell.
-ghost use Rattle.std.specs.Prelude.{◌≡◌, ◌≤◌};
+ghost use Rattle.std.specs.Prelude.{◌≡◌, IfOk};
 ghost use Rattle.refusal.specs.Outcome.{accepted, first};
-ghost use Rattle.refusal.specs.Refusal.{of_judgement};
-ghost use Rattle.flips.specs.declared.sets.Flips.{Flips};
-ghost use Rattle.flips.specs.Load.{flips_outcome};
-ghost use Rattle.stratify.specs.Answers.{not_a_cell, query_tests};
+ghost use Rattle.refusal.specs.Refusal.{of_result};
+ghost use Rattle.plan.specs.Pair.{scramble_lent};
+ghost use Rattle.stratify.specs.Answers.{query_tests};
 
 use crate::Block;
-use plan::Plan;
-use refusal::{Judgement, Refusal};
+use crate::shapes::Shape;
+use plan::{LentScramble, Plan, Scramble};
+use refusal::Refusal;
 use word::INDEX_BITS;
 
-// Whether a column or a row lies outside the shape (m, a).
-pub(crate) fn outside(m: u32, a: u32, column: u32, row: u32) -> bool
-    requires { (a ≤ m) × (m ≤ 32) }
-    ensures { result ≡ (not_a_cell 2 m a column row).holds }
-{
-    if (column as u64) >> a != 0 {
-        return true;
-    }
-    (row as u64) >> (m - a) != 0
-}
-
-// 2, what loading the flips has come to (17, 18), 4, 5, 6 and 7, in this order.
+// 2, what loading the flips comes to (17, 18), 4, 5, 6 and 7, in this order. What passes them all is a scramble and a shape.
 pub(crate) fn judge(
-    flips: Judgement,
+    lent: LentScramble,
     level: u32,
     m: u32,
     a: u32,
     column: u32,
     row: u32,
     block: Block,
-) -> Judgement
-    ensures { (f : Flips) → of_judgement flips ≡ flips_outcome f
-        → of_judgement result ≡ first (query_tests f level m a block column row) (accepted tt) }
+) -> Result<(Scramble, Shape), Refusal>
+    ensures scramble { of_result (λ j. j.0) result
+        ≡ first (query_tests (scramble_lent lent.entry).flips level m a block column row) (accepted (scramble_lent lent.entry)) }
+    ensures shape { IfOk result (λ j. (j.1.m ≡ m) × (j.1.a ≡ a)) }
 {
     if Plan::unknown_level(level) {
-        return Judgement::Refused(Refusal::Level);
+        return Err(Refusal::Level);
     }
-    match flips {
-        Judgement::Refused(why) => {
-            return Judgement::Refused(why);
-        }
-        Judgement::Accepted => {}
-    }
+    let scramble = lent.load()?;
     if m > level {
-        return Judgement::Refused(Refusal::Size);
+        return Err(Refusal::Size);
     }
     if a > m {
-        return Judgement::Refused(Refusal::Shape);
+        return Err(Refusal::Shape);
     }
-    if outside(m, a, column, row) {
-        return Judgement::Refused(Refusal::Cell);
+    let shape = Shape { m, a };
+    if shape.outside(column, row) {
+        return Err(Refusal::Cell);
     }
     if (block as u64) >> (INDEX_BITS - m) != 0 {
-        return Judgement::Refused(Refusal::Block);
+        return Err(Refusal::Block);
     }
-    Judgement::Accepted
+    Ok((scramble, shape))
 }

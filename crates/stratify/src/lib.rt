@@ -6,8 +6,9 @@ mod checks;
 mod judging;
 mod overviews;
 mod queries;
+mod shapes;
 mod strips;
 
 pub use checks::check;
 pub use overviews::overview;
-pub use queries::{Block, Located, query};
+pub use queries::{Block, query};

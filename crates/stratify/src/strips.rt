@@ -10,8 +10,9 @@ ghost use Rattle.plan.specs.Pair.{generators};
 ghost use Rattle.stratify.specs.Strips.{plain_strip, plain_number};
 
 use crate::Block;
+use crate::shapes::Shape;
 use flips::AxisFlips;
-use plan::{Plan, Scramble, Shift};
+use plan::{Plan, Scramble};
 use word::{join, top};
 
 // Of the 2^t strips of an axis, the one from which flips and then a shift lead to this one: moved to the top of a word it is unscrambled there.
@@ -27,62 +28,46 @@ fn plain_strip(flips: AxisFlips, shift: u32, t: u32, strip: u32) -> u32
     top(flips::unscramble(flips, shift, word), t)
 }
 
-// The number of the cell of the plain run from which a scramble leads to a cell of the shape (m, a).
-pub(crate) fn plain_number(scramble: Scramble, m: u32, a: u32, column: u32, row: u32) -> u32
-    requires { (a ≤ m) × (m ≤ 32) × (column < 2 ^ a) × (row < 2 ^ (m - a)) }
-    ensures { result ≡ plain_number scramble m a column row }
+// The number of the cell of the plain run from which a scramble leads to a cell of the shape.
+pub(crate) fn plain_number(scramble: Scramble, shape: Shape, column: u32, row: u32) -> u32
+    requires { (column < 2 ^ shape.a) × (row < 2 ^ (shape.m - shape.a)) }
+    ensures { result ≡ plain_number scramble shape.m shape.a column row }
 {
-    let flips = scramble.flips;
-    let flips_x = flips.x;
-    let flips_y = flips.y;
-    let shift = scramble.shift;
-    let c = plain_strip(flips_x, shift.x, a, column);
-    let r = plain_strip(flips_y, shift.y, m - a, row);
-    join(c, r, m - a)
+    let Scramble { shift, flips } = scramble;
+    let height = shape.m - shape.a;
+    let c = plain_strip(flips.x, shift.x, shape.a, column);
+    let r = plain_strip(flips.y, shift.y, height, row);
+    join(c, r, height)
 }
 
-// What a shift adds to the number of every cell of the shape (m, a).
-pub(crate) fn shift_number(shift: Shift, m: u32, a: u32) -> u32
-    requires { (a ≤ m) × (m ≤ 32) }
-    ensures { result ≡ serial 2 (m - a) (top 2 32 a shift.x) (top 2 32 (m - a) shift.y) }
-{
-    join(top(shift.x, a), top(shift.y, m - a), m - a)
-}
-
-// The same number for one of many cells: whether there are flips, and what the shift adds, is the same for all of them and comes in.
+// The same number for one of many cells: whether there are flips, and what the shift adds to the number of every cell, comes in.
 pub(crate) fn plain_number_among(
     scramble: Scramble,
     unflipped: bool,
     added: u32,
-    m: u32,
-    a: u32,
+    shape: Shape,
     column: u32,
     row: u32,
 ) -> u32
-    requires a_le_m { (a ≤ m) × (m ≤ 32) × (column < 2 ^ a) × (row < 2 ^ (m - a)) }
+    requires column { (column < 2 ^ shape.a) × (row < 2 ^ (shape.m - shape.a)) }
     requires none_set { (unflipped ≡ true → NoneSet scramble.flips.x × NoneSet scramble.flips.y)
-        × (added ≡ serial 2 (m - a) (top 2 32 a scramble.shift.x) (top 2 32 (m - a) scramble.shift.y)) }
-    ensures { result ≡ plain_number scramble m a column row }
+        × (added ≡ serial 2 (shape.m - shape.a) (top 2 32 shape.a scramble.shift.x) (top 2 32 (shape.m - shape.a) scramble.shift.y)) }
+    ensures { result ≡ plain_number scramble shape.m shape.a column row }
 {
     if unflipped {
-        return join(column, row, m - a) ^ added;
+        return join(column, row, shape.m - shape.a) ^ added;
     }
-    plain_number(scramble, m, a, column, row)
+    plain_number(scramble, shape, column, row)
 }
 
-// The number of the cell of the shape (m, a) in which the first visit of a block lies in the plain run. Block 0 begins at index 0, whose products
-// are 0.
-pub(crate) fn block_cell(plan: Plan, m: u32, a: u32, block: Block) -> u32
-    requires { Valid (generators plan) × (a ≤ m) × (m ≤ index_bits) × (block < 2 ^ (index_bits - m)) }
-    ensures { result ≡ interval (plain (generators plan)) m a (block * 2 ^ m) }
+// The number of the cell in which the first visit of a block lies in the plain run. Block 0 begins at index 0, whose products are 0.
+pub(crate) fn block_cell(plan: Plan, shape: Shape, block: Block) -> u32
+    requires { Valid (generators plan) × (block < 2 ^ (index_bits - shape.m)) }
+    ensures { result ≡ interval (plain (generators plan)) shape.m shape.a (block * 2 ^ shape.m) }
 {
     if block == 0 {
         return 0;
     }
-    let first = join(block, 0, m);
-    let x = plan.x;
-    let y = plan.y;
-    let c = top(word::product(x, first), a);
-    let r = top(word::product(y, first), m - a);
-    join(c, r, m - a)
+    let first = join(block, 0, shape.m);
+    shape.number_at(word::product(plan.x, first), word::product(plan.y, first))
 }

@@ -2,15 +2,15 @@
 -- Assumes nothing.
 use mathlib.Core.Path.{◌≡◌, refl, sym, ap, ◌∙◌, subst}
 use mathlib.Core.List.{List, [], ◌∷◌, ◌++◌, append_assoc}
-use Prim.Native.Nat.{ℕ, suc, ◌+◌, ◌-◌, ◌≤◌}
+use Prim.Native.Nat.{ℕ, suc, ◌+◌, ◌-◌, ◌≤◌, ◌<◌}
 use native.Mathlib.Omega.{arith}
 use lib.IntN.{ℤ, nat_abs}
 use lib.ListN.{length, replicate, length-append, length-replicate}
 use Rattle.text.specs.Ascii.{blank}
 use Rattle.text.specs.Decimal.{decimal, sign, signed_decimal, number_text, signed_text, longest_number, longest_signed}
 use Rattle.text.specs.Columns.{right, aligned, longest_aligned}
-use Rattle.text.proofs.Puts.{Writes, writes_keeps_length, writes_then}
-use Rattle.text.proofs.Numbers.{number_longest, signed_longest}
+use Rattle.text.proofs.Puts.{Writes, writes_then}
+use Rattle.text.proofs.Numbers.{decimal_longest, signed_decimal_longest}
 
 pub number_text_is : (n last : ℕ) → number_text n last ≡ decimal n ++ (last ∷ [])
 unfolding number_text
@@ -34,50 +34,29 @@ aligned-wide w text last h = omega (arith, length-append (right w text) (last �
 pub one_longer : (t s : List ℕ) (last : ℕ) → s ≡ t ++ (last ∷ []) → length s ≡ length t + 1
 one_longer t s last is = ap length is ∙ length-append t (last ∷ [])
 
--- a text t in w columns, where s is the text with the byte after it, and no such s is longer than m
-module _ (w m : ℕ) (t s : List ℕ) (last : ℕ) (is : s ≡ t ++ (last ∷ [])) (short : length s ≤ m) where
-  -- the blanks, and then the text with the byte after it
-  aligned-parts : aligned w t last ≡ replicate (w - length t) blank ++ s
+-- a text in w columns, where no text is longer than m bytes with the byte after it
+module _ (w m : ℕ) (text : List ℕ) (last : ℕ) (short : length text < m) where
+  pub aligned_longest : length (aligned w text last) ≤ longest_aligned w m
   unfolding right
-  aligned-parts =
-      append_assoc (replicate (w - length t) blank) t (last ∷ []) ∙ ap (λ (l : List ℕ). replicate (w - length t) blank ++ l) (sym is)
+  aligned_longest =
+      let blanks : List ℕ = replicate (w - length text) blank in
+      omega (arith, length-append (right w text) (last ∷ []), length-append blanks text, length-replicate (w - length text) blank)
 
-  width : length s ≡ length t + 1
-  width = one_longer t s last is
-
-  aligned-length : length (aligned w t last) ≡ w - length t + length s
-  aligned-length =
-      ap length aligned-parts ∙ length-append (replicate (w - length t) blank) s
-      ∙ ap (λ (k : ℕ). k + length s) (length-replicate (w - length t) blank)
-
-  pub aligned_longest : length (aligned w t last) ≤ longest_aligned w m
-  aligned_longest = omega (arith, aligned-length, width, short)
-
-  -- where a column has room, so have its margin, and its text behind that
-  module _ (d : List ℕ) (at k : ℕ) (wide : k ≡ length t) (room : at + longest_aligned w m ≤ length d) where
-    pub margin_fits : at + (w - k) ≤ length d
-    margin_fits = omega (arith, room, wide, width, short)
-
-    module _ (next : ℕ) (e : List ℕ) (p : Writes d at (replicate (w - k) blank) next e) where
-      pub text-fits : next + length s ≤ length e
-      text-fits =
-          let long = length-replicate (w - k) blank in
-          let fits : at + length (replicate (w - k) blank) ≤ length d = omega (arith, room, wide, width, short, long) in
-          let same = writes_keeps_length d at (replicate (w - k) blank) next e p fits in
-          omega (arith, room, wide, width, short, long, p.0, same)
-
-      -- a writer of the margin and then a writer of the text are a writer of the column
-      pub margin_then : (r : ℕ) (f : List ℕ) → Writes e next s r f → Writes d at (aligned w t last) r f
-      margin_then r f q =
-          let long = length-replicate (w - k) blank in
-          subst (λ (l : List ℕ). Writes d at l r f) (ap (λ (j : ℕ). replicate (w - j) blank ++ s) wide ∙ sym aligned-parts)
-          (writes_then d at (replicate (w - k) blank) s next e r f p q (omega (arith, room, wide, width, short, long)))
+  -- a writer of the margin, one of the text and one of the byte are a writer of the column, where the column has room
+  pub column_written : (d : List ℕ) (at k r : ℕ) (e : List ℕ) (r' : ℕ) (e' : List ℕ) (r'' : ℕ) (e'' : List ℕ) → k ≡ length text
+      → at + longest_aligned w m ≤ length d → Writes d at (replicate (w - k) blank) r e → Writes e r text r' e' → Writes e' r' (last ∷ []) r'' e''
+      → Writes d at (aligned w text last) r'' e''
+  unfolding right
+  column_written d at k r e r' e' r'' e'' wide room p q o =
+      let blanks : List ℕ = replicate (w - length text) blank in
+      let long = length-replicate (w - length text) blank in
+      let margin : Writes d at blanks r e = subst (λ (n : ℕ). Writes d at (replicate (w - n) blank) r e) wide p in
+      let both = writes_then d at blanks text r e r' e' margin q (omega (arith, long)) in
+      writes_then d at (blanks ++ text) (last ∷ []) r' e' r'' e'' both o (omega (arith, long, length-append blanks text))
 
 -- numbers in columns
 pub number-aligned_longest : (w n last : ℕ) → length (aligned w (decimal n) last) ≤ longest_aligned w longest_number
-number-aligned_longest w n last =
-    aligned_longest w longest_number (decimal n) (number_text n last) last (number_text_is n last) (number_longest n last)
+number-aligned_longest w n last = aligned_longest w longest_number (decimal n) last (omega (arith, decimal_longest n))
 
 pub signed_aligned_longest : (w : ℕ) (z : ℤ) (last : ℕ) → length (aligned w (signed_decimal z) last) ≤ longest_aligned w longest_signed
-signed_aligned_longest w z last =
-    aligned_longest w longest_signed (signed_decimal z) (signed_text z last) last (signed_text_is z last) (signed_longest z last)
+signed_aligned_longest w z last = aligned_longest w longest_signed (signed_decimal z) last (omega (arith, signed_decimal_longest z))

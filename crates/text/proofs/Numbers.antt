@@ -85,6 +85,9 @@ sign-length : (z : ℤ) → length (sign z) ≤ 1
 sign-length (pos n) = omega arith
 sign-length (negsuc n) = omega arith
 
+pub signed_decimal_longest : (z : ℤ) → length (signed_decimal z) ≤ 11
+signed_decimal_longest z = omega (arith, length-append (sign z) (decimal (nat_abs z)), sign-length z, decimal_longest (nat_abs z))
+
 -- a sign more than the magnitude
 pub signed_short : (g : ℕ) (z : ℤ) → nat_abs z < 10 ^ suc g → length (signed_decimal z) ≤ suc (suc g)
 signed_short g z h = omega (arith, length-append (sign z) (decimal (nat_abs z)), sign-length z, decimal-short g (nat_abs z) h)

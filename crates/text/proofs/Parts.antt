@@ -3,14 +3,13 @@
 use mathlib.Core.Path.{◌≡◌, sym, ap, ap₂, ◌∙◌, subst}
 use mathlib.Core.Bool.{cond}
 use mathlib.Core.List.{List, [], ◌∷◌, ◌++◌, append_assoc}
-use Prim.Native.Nat.{ℕ, zero, suc, ◌+◌, ◌*◌, ◌/◌, ◌%◌, ◌-◌, ◌^◌, ◌≤◌, ◌<◌}
-use native.Mathlib.Nat.{mod-eq_of_lt, mul-add-mod_self_right}
+use Prim.Native.Nat.{ℕ, zero, suc, ◌+◌, ◌/◌, ◌%◌, ◌^◌, ◌≤◌, ◌<◌}
 use native.Mathlib.Omega.{arith}
 use borrow.Author.Tests.{lt-ltb, le-ltb}
 use lib.Dec.{ltb}
 use lib.ListN.{length, length-append}
 use Rattle.text.specs.Ascii.{digit_zero}
-use Rattle.text.specs.Decimal.{decimal_in, decimal, two_digits, two_digits_word, four_digits}
+use Rattle.text.specs.Decimal.{decimal_in, decimal, two_digits, four_digits}
 use Rattle.text.proofs.Puts.{Writes, writes_then}
 use Rattle.text.proofs.Back.{fewer}
 
@@ -65,31 +64,6 @@ length_last_two n h l = ap length (decimal_last_two n h l) ∙ length-append (de
 
 pub length_last_four : (n : ℕ) → 10000 ≤ n → n < 2 ^ 32 → length (decimal n) ≡ length (decimal (n / 10000)) + 4
 length_last_four n h l = ap length (decimal_last_four n h l) ∙ length-append (decimal (n / 10000)) (four_digits (n % 10000))
-
--- the two bytes of a word that holds two digits are the digits
-pub two-digits-bytes : (w n : ℕ) → n < 100 → w ≡ two_digits_word n → (w % 256) ∷ (w / 256) ∷ [] ≡ two_digits n
-two-digits-bytes w n h e =
-    let x : w % 256 ≡ digit_zero + n / 10 = omega arith in
-    let y : w / 256 ≡ digit_zero + n % 10 = omega arith in
-    ap₂ (λ (p q : ℕ). p ∷ q ∷ []) x y
-
-words : (p q : ℕ) → 808464432 + 256 * (p + 65536 * q) - 2559 * (q / 10 * 65536 + p / 10) ≡ two_digits_word p + two_digits_word q * 65536
-words p q = omega arith
-
--- two numbers p and q below 100, 16 bits apart: one product with 103 and one division by 1024 give p / 10 in the lowest 4 bits and q / 10
--- from bit 16 on
-pub four_digits-word_is : (p q : ℕ) → p < 100 → q < 100 → let w = (p + 65536 * q) * 103 / 1024 in
-    808464432 + 256 * (p + 65536 * q) - 2559 * (w / 65536 * 65536 + w % 16) ≡ two_digits_word p + two_digits_word q * 65536
-four_digits-word_is p q g h =
-    let w = (p + 65536 * q) * 103 / 1024 in
-    let a : p * 103 / 1024 ≡ p / 10 = omega arith in
-    let b : q * 103 / 1024 ≡ q / 10 = omega arith in
-    let e : w ≡ q * 412 * 16 + p / 10 = omega (arith, a) in
-    let s : p / 10 < 16 = omega arith in
-    let low = ap (λ (k : ℕ). k % 16) e ∙ mul-add-mod_self_right (q * 412) 16 (p / 10) ∙ mod-eq_of_lt s in
-    let high : w / 65536 ≡ q / 10 = omega (arith, e, b) in
-    let t : w / 65536 * 65536 + w % 16 ≡ q / 10 * 65536 + p / 10 = ap₂ (λ (x y : ℕ). x * 65536 + y) high low in
-    ap (λ (k : ℕ). 808464432 + 256 * (p + 65536 * q) - 2559 * k) t ∙ words p q
 
 -- a writer of each part is a writer of the text
 writes_parts : (d : List ℕ) (at : ℕ) (s t u : List ℕ) (r : ℕ) (e : List ℕ) (r' : ℕ) (e' : List ℕ)

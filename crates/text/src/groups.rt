@@ -14,17 +14,6 @@ pub(crate) fn put_byte(b: u8, out: &mut [u8], at: usize) -> usize
     at + 1
 }
 
-// Writes the two bytes of a word below 2^16, the lowest first.
-fn put_bytes(word: u32, out: &mut [u8], at: usize) -> usize
-    requires word_bound { word < 65536 }
-    requires at_in_bounds { at + 2 ≤ length out.old }
-    ensures end { result ≡ at + 2 }
-    ensures text { out.new ≡ put out.old at ((word % 256) ∷ (word / 256) ∷ []) }
-{
-    let next = put_byte((word % 256) as u8, out, at);
-    put_byte((word / 256) as u8, out, next)
-}
-
 // The two digits of a number below 100, as a word of two bytes. n * 103 / 1024 is n / 10 for n below 100. With t for n / 10, the digits are
 // t and n - 10 t, so the word is 0x3030 + t + 256 (n - 10 t) = 0x3030 + 256 n - 2559 t.
 fn two_digits_word(n: u32) -> u32
@@ -53,8 +42,9 @@ pub(crate) fn put_two_digits(n: u32, out: &mut [u8], at: usize) -> usize
     ensures end { result ≡ at + length (two_digits n) }
     ensures text { out.new ≡ put out.old at (two_digits n) }
 {
-    let word = two_digits_word(n);
-    put_bytes(word, out, at)
+    let word = two_digits_word(n) as u16;
+    out[at..at + 2].copy_from_slice(&word.to_le_bytes());
+    at + 2
 }
 
 // Writes a number below 10000 in four digits.
@@ -65,6 +55,6 @@ pub(crate) fn put_four_digits(n: u32, out: &mut [u8], at: usize) -> usize
     ensures text { out.new ≡ put out.old at (four_digits n) }
 {
     let word = four_digits_word(n);
-    let next = put_bytes(word % 65536, out, at);
-    put_bytes(word / 65536, out, next)
+    out[at..at + 4].copy_from_slice(&word.to_le_bytes());
+    at + 4
 }

@@ -8,6 +8,7 @@ mod groups;
 mod numerals;
 mod pieces;
 
-pub use columns::{right_number, right_signed_number};
-pub use fields::{LONGEST_NUMBER, LONGEST_SIGNED, bytes, has_room, number, signed_number};
+pub use columns::right_number;
+pub use fields::{bytes, has_room, number};
+pub use numerals::{Decimal, LONGEST_NUMBER, LONGEST_SIGNED};
 pub use pieces::Pieces;

@@ -1,10 +1,114 @@
 // Numbers in decimal and their signs, in a buffer that has room for them.
-ghost use Rattle.std.specs.Prelude.{◌≡◌, ◌+◌, ◌≤◌, ◌<◌, length};
-ghost use Rattle.text.specs.Decimal.{decimal, sign, number_text, signed_text};
+ghost use Rattle.std.specs.Prelude.{◌≡◌, List, ℕ, ◌+◌, ◌≤◌, ◌<◌, length};
+ghost use Rattle.text.specs.Decimal.{decimal, signed_decimal, sign, longest_number, longest_signed};
 ghost use Rattle.text.specs.Put.{put};
 
 use crate::groups::{put_byte, put_four_digits, put_two_digits};
-use signed::unsigned_abs;
+
+// Ten digits and the byte after them.
+pub const LONGEST_NUMBER: usize = 11;
+
+// A sign, ten digits and the byte after them.
+pub const LONGEST_SIGNED: usize = 12;
+
+// A number that is written in decimal, as its text says.
+pub trait Decimal: Copy {
+    ghost in_decimal: { Self → List ℕ };
+
+    ghost longest: { ℕ };
+
+    // The length of the longest text with the byte after it. `fits` is no law, since the proof of a law would have to stand in specs/.
+    fn longest() -> usize
+        ensures value { result ≡ longest }
+        ensures fits { (n : Self) → length (in_decimal n) < longest };
+
+    // How many bytes the text has.
+    fn width(self) -> usize
+        ensures { result ≡ length (in_decimal self) };
+
+    // Writes the text.
+    fn put(self, out: &mut [u8], at: usize) -> usize
+        requires { at + length (in_decimal self) ≤ length out.old }
+        ensures end { result ≡ at + length (in_decimal self) }
+        ensures text { out.new ≡ put out.old at (in_decimal self) };
+}
+
+impl Decimal for u32 {
+    ghost in_decimal = { decimal };
+
+    ghost longest = { longest_number };
+
+    fn longest() -> usize {
+        LONGEST_NUMBER
+    }
+
+    fn width(self) -> usize {
+        digit_count(self)
+    }
+
+    fn put(self, out: &mut [u8], at: usize) -> usize {
+        put_decimal(self, out, at)
+    }
+}
+
+// A minus sign stands before a negative number.
+impl Decimal for i32 {
+    ghost in_decimal = { signed_decimal };
+
+    ghost longest = { longest_signed };
+
+    fn longest() -> usize {
+        LONGEST_SIGNED
+    }
+
+    fn width(self) -> usize {
+        let digits = digit_count(self.unsigned_abs());
+        if self < 0 {
+            return digits + 1;
+        }
+        digits
+    }
+
+    fn put(self, out: &mut [u8], at: usize) -> usize {
+        let next = put_sign(self, out, at);
+        put_decimal(self.unsigned_abs(), out, next)
+    }
+}
+
+// How many digits a number has. Comparisons cost less than divisions and, as measured, than `ilog10`, and the fewer of them the likely numbers
+// need, the better: record and index have up to four digits, positions mostly five to seven.
+fn digit_count(n: u32) -> usize
+    ensures { result ≡ length (decimal n) }
+{
+    if n < 10000 {
+        if n >= 1000 {
+            return 4;
+        }
+        if n >= 100 {
+            return 3;
+        }
+        if n >= 10 {
+            return 2;
+        }
+        return 1;
+    }
+    if n < 1000000 {
+        if n < 100000 {
+            return 5;
+        }
+        return 6;
+    }
+    if n < 10000000 {
+        return 7;
+    }
+    if n < 100000000 {
+        return 8;
+    }
+    if n < 1000000000 {
+        return 9;
+    }
+    10
+}
 
 // Writes a number of at most two digits.
 fn put_up_to_two(n: u32, out: &mut [u8], at: usize) -> usize
@@ -52,16 +156,6 @@ fn put_decimal(n: u32, out: &mut [u8], at: usize) -> usize
     put_four_digits(n % 10000, out, third)
 }
 
-// Writes a number and the byte `last` after it.
-pub(crate) fn put_number(n: u32, last: u8, out: &mut [u8], at: usize) -> usize
-    requires { at + length (number_text n last) ≤ length out.old }
-    ensures end { result ≡ at + length (number_text n last) }
-    ensures text { out.new ≡ put out.old at (number_text n last) }
-{
-    let next = put_decimal(n, out, at);
-    put_byte(last, out, next)
-}
-
 // Writes a minus sign for a negative number, and nothing for another.
 fn put_sign(z: i32, out: &mut [u8], at: usize) -> usize
     requires { at + length (sign z) ≤ length out.old }
@@ -72,15 +166,4 @@ fn put_sign(z: i32, out: &mut [u8], at: usize) -> usize
         return put_byte(b'-', out, at);
     }
     at
-}
-
-// Writes a signed number, with a minus sign before a negative one, and the byte `last` after it.
-pub(crate) fn put_signed(z: i32, last: u8, out: &mut [u8], at: usize) -> usize
-    requires { at + length (signed_text z last) ≤ length out.old }
-    ensures end { result ≡ at + length (signed_text z last) }
-    ensures text { out.new ≡ put out.old at (signed_text z last) }
-{
-    let m = unsigned_abs(z);
-    let next = put_sign(z, out, at);
-    put_number(m, last, out, next)
 }

@@ -15,6 +15,7 @@ pub extern "C" fn vektrid_judge(file: &[u8]) -> u32
 }
 
 // The same judgement, and of a refused file also the link at which it stopped.
+#[tactic(auto, unfolding(refusal::specs::Outcome::granted))]
 #[unsafe(no_mangle)]
 pub extern "C" fn vektrid_judge_link(file: &[u8], holder: &mut u32, named: &mut u32) -> u32
     ensures answer { result ≡ answer_number (judge_outcome no_further_tests file.now) }

@@ -10,6 +10,7 @@ use stratify::Block;
 use word::Index;
 
 // The index of a block in each of many cells of one shape; 3 gives the shape's least index.
+#[tactic(auto, using(answers::proofs::Outcomes::number_then, answers::proofs::Outcomes::value_then))]
 #[unsafe(no_mangle)]
 pub extern "C" fn vektrid_overview(
     words: &[u32],

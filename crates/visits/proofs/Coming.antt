@@ -8,7 +8,7 @@ use mathlib.Core.Logic.{◌⊎◌, inl, inr}
 use Prim.Native.Nat.{ℕ, zero, suc, ◌+◌, ◌-◌, ◌≤◌, ◌<◌}
 use native.Mathlib.Nat.{lt_irrefl, le_refl}
 use native.Mathlib.Omega.{arith}
-use borrow.Author.Tests.{eq-eqb, ne_eqb, le-leb, lt-leb, not-false}
+use borrow.Author.Tests.{eq-eqb, ne_eqb, lt-leb, not-false}
 use lib.Dec.{eqb, leb}
 use Rattle.ranges.specs.Range.{range}
 use Rattle.ranges.proofs.Tests.{both_hold}
@@ -47,10 +47,6 @@ record_visits-none n r i (suc k) h = absurd (omega arith)
 pub listable-zero : (file : List ℕ) (n : ℕ) → n ≡ 0 → listable file n ≡ false
 unfolding listable
 listable-zero file n e = simp (eq-eqb n 0 e)
-
-pub listable_past : (file : List ℕ) (n : ℕ) → (n ≡ 0 → ⊥) → record_count file ≤ n → listable file n ≡ false
-unfolding listable
-listable_past file n e h = simp (ne_eqb n 0 e, le-leb _ _ h)
 
 pub listable-region : (file : List ℕ) (n : ℕ) → (n ≡ 0 → ⊥) → n < record_count file
     → listable file n ≡ (within (record_at file n).region && takes (reader_field file) (record_at file n).region)

@@ -1,15 +1,9 @@
 -- The visits still to come from a walk, whatever its fields and the file.
-use Rattle.std.specs.Prelude.{◌≡◌, Bool, cond, not, ◌&&◌, List, [], ◌∷◌, ◌++◌, ℕ, zero, suc, ◌-◌, min, eqb, leb, pos}
-use Rattle.refusal.specs.Outcome.{Outcome, accepted}
-use Rattle.refusal.specs.Refusal.{of_refusal}
+use Rattle.std.specs.Prelude.{◌≡◌, Bool, cond, not, ◌&&◌, List, [], ◌∷◌, ◌++◌, ℕ, zero, suc, ◌-◌, min, eqb, leb, pos, Option, Some, None}
 use Rattle.stage.specs.Region.{within, takes}
 use Rattle.region_file.specs.Records.{record_at, reader_field, record_count, most_records}
 use Rattle.visits.specs.declared.file_walks.FileVisit.{FileVisit}
 use Rattle.visits.specs.declared.file_walks.FileWalk.{FileWalk}
-use Rattle.visits.specs.declared.file_walks.FileStep.{FileStep}
-use Rattle.visits.specs.declared.file_walks.FileStep.TheVariants as step
-use Rattle.visits.specs.declared.file_walks.OpenedFile.{OpenedFile}
-use Rattle.visits.specs.declared.file_walks.OpenedFile.TheVariants as opened
 use Rattle.visits.specs.Visits.{planned, record_visits}
 
 -- n names a record of the file whose region lies within its limits and takes the reader's field
@@ -38,14 +32,9 @@ visits_to_come file p =
     (record_visits p.number r p.index (r.count - p.index) ++ visits_from file (links_counted p.links) r.next) []
 
 -- what a step gives: the first visit to come with the walk after it, or the end where none is to come
-abbrev pub Gives : List ℕ → FileWalk → FileStep → FileWalk → Type 0
-Gives file p (step.Visited v) q = visits_to_come file p ≡ v ∷ visits_to_come file q
-Gives file p step.Ended q = (visits_to_come file p ≡ []) × (visits_to_come file q ≡ [])
-
--- what the answer of `open` stands for: the visits to come from the walk, or the refusal
-abbrev pub of_opened_file : List ℕ → OpenedFile → Outcome (List FileVisit)
-of_opened_file file (opened.Open p) = accepted (visits_to_come file p)
-of_opened_file file (opened.Refused why) = of_refusal why
+abbrev pub Gives : List ℕ → FileWalk → Option FileVisit → FileWalk → Type 0
+Gives file p (Some v) q = visits_to_come file p ≡ v ∷ visits_to_come file q
+Gives file p None q = (visits_to_come file p ≡ []) × (visits_to_come file q ≡ [])
 
 -- a walk before the record `next`: it holds a record without visits, whose next is `next`
 abbrev pub before_record : ℕ → ℕ → FileWalk

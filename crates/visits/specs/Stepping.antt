@@ -1,12 +1,11 @@
 -- Inner promises: a position in the walk's record, a step within the record, and the walk at the next record that has a visit.
-use Rattle.std.specs.Prelude.{◌≡◌, cond, not, ◌&&◌, List, [], ◌⊎◌, ℕ, ◌+◌, ◌<◌, leb}
+use Rattle.std.specs.Prelude.{◌≡◌, cond, not, ◌&&◌, List, [], ◌⊎◌, ℕ, ◌+◌, ◌<◌, leb, Option, Some, None}
 use Rattle.refusal.specs.Outcome.{Outcome}
 use Rattle.stage.specs.declared.regions.Position.{Position}
 use Rattle.stage.specs.Region.{within, corner_outcome}
 use Rattle.region_file.specs.declared.records.Record.{Record}
+use Rattle.visits.specs.declared.file_walks.FileVisit.{FileVisit}
 use Rattle.visits.specs.declared.file_walks.FileWalk.{FileWalk}
-use Rattle.visits.specs.declared.file_walks.FileStep.TheVariants as step
-use Rattle.visits.specs.declared.file_walks.FileStepped.{FileStepped}
 use Rattle.visits.specs.Visits.{record_point, file_visit}
 use Rattle.visits.specs.FileWalk.{visits_from, links_counted, visits_to_come}
 
@@ -19,11 +18,10 @@ abbrev pub after_visit : FileWalk → FileWalk
 after_visit p = record { number = p.number; planned = p.planned; index = p.index + 1; links = p.links }
 
 -- a step that does not leave the walk's record: the visit at its index, or the end where the record has no such visit or no position
-unfoldable pub step_in_record : FileWalk → FileStepped
+unfoldable pub step_in_record : FileWalk → Option FileVisit × FileWalk
 step_in_record p =
     cond (not (leb p.planned.count p.index) && within p.planned.region)
-    (record { step = step.Visited (file_visit p.number p.planned p.index); walk = after_visit p })
-    (record { step = step.Ended; walk = p })
+    (Some (file_visit p.number p.planned p.index), after_visit p) (None, p)
 
 -- from the walk p the visits of the chain that begins with record n are to come, over as many of the links as count, and p has a visit at its
 -- index unless none is to come

@@ -1,10 +1,11 @@
 -- What users rely on: the steps from an opened file give its visits, one after the other, and then the end; which visits a file has; that the
 -- reader's field lies in its region at each; and that files without a field have the visits that they had.
-use Rattle.std.specs.Prelude.{◌≡◌, true, cond, ◌&&◌, List, [], ◌∷◌, ◌⊎◌, ◌↔◌, ℕ, zero, suc, ◌≤◌, ◌<◌, eqb, ltb, length}
+use Rattle.std.specs.Prelude.{◌≡◌, true, cond, ◌&&◌, List, [], ◌∷◌, ◌⊎◌, ◌↔◌, ℕ, zero, suc, ◌≤◌, ◌<◌, eqb, ltb, length, Option, Some, None, Ok}
 use Rattle.ranges.specs.Below.{Below}
 use Rattle.net.specs.Sequence.{point}
 use Rattle.net.specs.Scrambling.{shifted}
 use Rattle.refusal.specs.Outcome.{accepted, Test}
+use Rattle.refusal.specs.Refusal.{of_result}
 use Rattle.plan.specs.Pair.{generators, standard_pair}
 use Rattle.stage.specs.Theorem.{PositionOf}
 use Rattle.region_file.specs.declared.records.Record.{Record}
@@ -13,25 +14,23 @@ use Rattle.region_file.specs.Chain.{on_chain}
 use Rattle.region_file.specs.Judge.{judge_outcome}
 use Rattle.visits.specs.declared.file_walks.FileVisit.{FileVisit}
 use Rattle.visits.specs.declared.file_walks.FileWalk.{FileWalk}
-use Rattle.visits.specs.declared.file_walks.FileStep.{FileStep}
-use Rattle.visits.specs.declared.file_walks.FileStep.TheVariants as step
-use Rattle.visits.specs.declared.file_walks.OpenedFile.TheVariants as opened
 use Rattle.visits.specs.Visits.{planned, record_point, visit_position_outcome, file_visit, file_visits, visits_outcome}
 use Rattle.visits.specs.Base.{base_visits_outcome}
-use Rattle.visits.specs.FileWalk.{links_counted, visits_to_come, Gives, of_opened_file}
+use Rattle.visits.specs.FileWalk.{links_counted, visits_to_come, Gives}
 
 -- ---- steps
 
--- steps one after the other, each from the walk that the one before handed back
-pub data Steps (file : List ℕ) : FileWalk → List FileStep → FileWalk → Type 0 where
+-- steps one after the other, each from the walk that the one before left
+pub data Steps (file : List ℕ) : FileWalk → List (Option FileVisit) → FileWalk → Type 0 where
   no_step : (p : FileWalk) → Steps file p [] p
-  first_step : (p q r : FileWalk) (s : FileStep) (ss : List FileStep) → Gives file p s q → Steps file q ss r → Steps file p (s ∷ ss) r
+  first_step : (p q r : FileWalk) (s : Option FileVisit) (ss : List (Option FileVisit)) → Gives file p s q → Steps file q ss r
+      → Steps file p (s ∷ ss) r
 
 -- what n steps give where these visits are to come: the visits, and the end in every step after them
-unfoldable pub file_answers : ℕ → List FileVisit → List FileStep
+unfoldable pub file_answers : ℕ → List FileVisit → List (Option FileVisit)
 file_answers zero vs = []
-file_answers (suc n) [] = step.Ended ∷ file_answers n []
-file_answers (suc n) (v ∷ vs) = step.Visited v ∷ file_answers n vs
+file_answers (suc n) [] = None ∷ file_answers n []
+file_answers (suc n) (v ∷ vs) = Some v ∷ file_answers n vs
 
 -- ---- the visits of a file
 
@@ -61,9 +60,10 @@ visits_at n i (v ∷ vs) = cond (eqb v.number n && eqb v.index i) (v ∷ visits_
 
 pub record Theorems : Type 0 where
   -- from any walk over any file
-  pub steps : (file : List ℕ) (p q : FileWalk) (ss : List FileStep) → Steps file p ss q → ss ≡ file_answers (length ss) (visits_to_come file p)
+  pub steps : (file : List ℕ) (p q : FileWalk) (ss : List (Option FileVisit)) → Steps file p ss q
+      → ss ≡ file_answers (length ss) (visits_to_come file p)
   -- ONE claim about the list of steps from the walk that `open` gives
-  pub listed : (file : List ℕ) (p q : FileWalk) (ss : List FileStep) → of_opened_file file (opened.Open p) ≡ visits_outcome file
+  pub listed : (file : List ℕ) (p q : FileWalk) (ss : List (Option FileVisit)) → of_result (visits_to_come file) (Ok p) ≡ visits_outcome file
       → Steps file p ss q → ss ≡ file_answers (length ss) (file_visits file)
   -- of an accepted file, whatever further tests it passed: a visit is among the file's visits exactly where its record is on the chain, its
   -- index is below the record's count, and its position is where the visit of the record with that index lies

@@ -6,7 +6,6 @@ ghost use Rattle.visits.specs.Stepping.{AtNextVisit};
 
 use crate::file_walks::FileWalk;
 use plan::Shift;
-use refusal::Judgement;
 use region_file::{MOST_RECORDS, Record};
 use stage::Region;
 
@@ -15,33 +14,23 @@ fn planned(file: &[u8], n: u32) -> Record
     ensures { result ≡ planned file.now n }
 {
     let named = region_file::record_at(file, n);
-    let region = named.region;
-    let shift = named.shift;
     Record {
-        next: named.next,
-        region: region.corners(region_file::reader_field(file)),
-        shift,
-        count: named.count,
+        region: named.region.corners(region_file::reader_field(file)),
+        ..named
     }
 }
 
 // Whether n names a record of the file whose region lies within its limits and takes the reader's field.
+#[tactic(auto, unfolding(crate::specs::FileWalk::listable), using(stage::proofs::Fit::accepts))]
 fn listable(file: &[u8], n: u32) -> bool
     ensures { result ≡ listable file.now n }
 {
-    if n == 0 {
-        return false;
-    }
-    if region_file::record_count(file) <= n as usize {
-        return false;
-    }
-    let named = region_file::record_at(file, n);
-    let region = named.region;
-    let judged = region.judge(region_file::reader_field(file));
-    match judged {
-        Judgement::Refused(_) => false,
-        Judgement::Accepted => true,
-    }
+    n != 0
+        && (n as usize) < region_file::record_count(file)
+        && region_file::record_at(file, n)
+            .region
+            .judge(region_file::reader_field(file))
+            .is_ok()
 }
 
 // The walk before the record `next`, with at most `links` records to follow. It holds a record without visits, whose next is `next`.
@@ -71,10 +60,7 @@ pub(crate) fn before_record(next: u32, links: u32) -> FileWalk
 fn links_counted(links: u32) -> u32
     ensures { result ≡ links_counted links }
 {
-    if MOST_RECORDS < links {
-        return MOST_RECORDS;
-    }
-    links
+    links.min(MOST_RECORDS)
 }
 
 // The walk at the first visit of the chain that begins with record `start`, with at most `links` records, as far as they count; a walk
@@ -83,19 +69,18 @@ pub(crate) fn at_next_visit(file: &[u8], start: u32, links: u32) -> FileWalk
     ensures { AtNextVisit file.now start links result }
 {
     let mut n = start;
-    let mut left = links_counted(links);
-    while left > 0 {
+    let counted = links_counted(links);
+    for passed in 0..counted {
         if !listable(file, n) {
             return FileWalk::ended();
         }
-        left -= 1;
         let entry = planned(file, n);
-        if 0 < entry.count {
+        if entry.count > 0 {
             return FileWalk {
                 number: n,
                 planned: entry,
                 index: 0,
-                links: left,
+                links: counted - 1 - passed,
             };
         }
         n = entry.next;

@@ -7,8 +7,6 @@ use native.Mathlib.Omega.{arith}
 use lib.Bits.{bit_xor, bit_and, and_step, and_shr}
 use lib.ListN.{length, drop, get_or, drop_of_length-le}
 use lib.Seq.{drop-cons}
-use Rattle.ranges.specs.Below.{Below}
-use Rattle.ranges.proofs.Below.{below_at}
 use Rattle.digits.specs.Digits.{digit, reversed, plus}
 use Rattle.digits.proofs.Digit.{digit_lt, ext}
 use Rattle.digits.proofs.Arithmetic.{digit-plus}
@@ -58,38 +56,30 @@ step-additive mask width = record {
     plus_step : (x : ℕ) → plus 2 x (bit_and x mask * 2 ^ width % 2 ^ 32) ≡ step mask width x
     plus_step x = plus-two x (bit_and x mask * 2 ^ width % 2 ^ 32)
 
--- a step for each mask and its width
-unfoldable pub steps : List ℕ → List ℕ → ℕ → ℕ
-steps [] widths x = x
-steps (mask ∷ masks) [] x = x
-steps (mask ∷ masks) (width ∷ widths) x = steps masks widths (step mask width x)
+-- a step for each width and mask
+unfoldable pub steps : List (ℕ × ℕ) → ℕ → ℕ
+steps [] x = x
+steps ((width, mask) ∷ rest) x = steps rest (step mask width x)
 
-pub steps-additive : (masks widths : List ℕ) → Additive 2 (steps masks widths)
+steps-additive : (each : List (ℕ × ℕ)) → Additive 2 (steps each)
 unfolding steps
-steps-additive [] widths = same-additive one_lt_two
-steps-additive (mask ∷ masks) [] = same-additive one_lt_two
-steps-additive (mask ∷ masks) (width ∷ widths) = chain_additive (step-additive mask width) (steps-additive masks widths)
+steps-additive [] = same-additive one_lt_two
+steps-additive ((width, mask) ∷ rest) = chain_additive (step-additive mask width) (steps-additive rest)
 
 -- one step more, as a loop takes it, and none left
-pub steps-drop : (masks widths : List ℕ) (k x : ℕ) → k < length masks → k < length widths
-    → steps (drop (k + 1) masks) (drop (k + 1) widths) (step (get_or masks k 0) (get_or widths k 0) x) ≡ steps (drop k masks) (drop k widths) x
+pub steps-drop : (each : List (ℕ × ℕ)) (z : ℕ × ℕ) (k x : ℕ) → k < length each
+    → steps (drop (k + 1) each) (step (get_or each k z).1 (get_or each k z).0 x) ≡ steps (drop k each) x
 unfolding steps
-steps-drop masks widths k x hm hw = rw (add-one, drop-cons masks k 0, drop-cons widths k 0)
+steps-drop each z k x h = rw (add-one, drop-cons each k z)
 
-pub steps_past : (masks widths : List ℕ) (k x : ℕ) → length masks ≤ k → steps (drop k masks) (drop k widths) x ≡ x
+pub steps_past : (each : List (ℕ × ℕ)) (k x : ℕ) → length each ≤ k → steps (drop k each) x ≡ x
 unfolding steps
-steps_past masks widths k x h = ap (λ (l : List ℕ). steps l (drop k widths) x) (drop_of_length-le masks h)
+steps_past each k x h = ap (λ (l : List (ℕ × ℕ)). steps l x) (drop_of_length-le each h)
 
--- ---- masks and widths that make the product with Pascal's triangle
+-- steps that make the product with Pascal's triangle: a test that computes, that each column of the identity goes to that of the triangle
+pub record PascalSteps (each : List (ℕ × ℕ)) : Type 0 where
+  pub columns : map (steps each) (iterated 2 32 32).X ≡ (iterated 2 32 32).Y
 
--- a test that computes: no shift is as wide as a word, and each column of the identity goes to that of Pascal's triangle
-pub record PascalSteps (masks widths : List ℕ) : Type 0 where
-  pub narrow : Below 32 widths
-  pub columns : map (steps masks widths) (iterated 2 32 32).X ≡ (iterated 2 32 32).Y
-
-pub width_lt : {masks widths : List ℕ} → PascalSteps masks widths → (k : ℕ) → get_or widths k 0 < 32
-width_lt {masks} {widths} test k = below_at 32 widths k (omega arith) test.narrow
-
-pub steps-product : {masks widths : List ℕ} → PascalSteps masks widths → (word : ℕ) → word < 2 ^ 32
-    → steps masks widths word ≡ product 2 (standard 2 32 32).Y (reversed 2 32 word)
-steps-product {masks} {widths} test word h = additive-pascal (steps-additive masks widths) 32 32 word (omega arith) h test.columns
+pub steps-product : {each : List (ℕ × ℕ)} → PascalSteps each → (word : ℕ) → word < 2 ^ 32
+    → steps each word ≡ product 2 (standard 2 32 32).Y (reversed 2 32 word)
+steps-product {each} test word h = additive-pascal (steps-additive each) 32 32 word (omega arith) h test.columns

@@ -5,23 +5,12 @@ ghost use Rattle.word.specs.Matrices.{columns_held};
 
 use crate::{COLUMNS, Columns};
 
-// The length of the shorter of two slices.
-fn shorter(a: usize, b: usize) -> usize
-    ensures { result ≡ min a b }
-{
-    if a < b { a } else { b }
-}
-
 // Copies words to the front of a slice, as many as both slices have.
 pub fn copy(from: &[u32], to: &mut [u32])
     ensures { to.new ≡ paste to.old 0 from.now (min (length from.now) (length to.old)) }
 {
-    let n = shorter(from.len(), to.len());
-    let mut i: usize = 0;
-    while i < n {
-        to[i] = from[i];
-        i += 1;
-    }
+    let n = from.len().min(to.len());
+    to[..n].copy_from_slice(&from[..n]);
 }
 
 // The columns that words hold, column 0 first. Columns that the words lack are 0, and words beyond the last column are left out.

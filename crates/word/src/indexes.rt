@@ -1,5 +1,4 @@
-// The range of the indexes. How many bits an index has, its type and the number of columns of a generator matrix stand here and
-// nowhere else.
+// The range of the indexes. The type of an index and the number of columns of a generator matrix stand here and nowhere else.
 ghost use Rattle.std.specs.Prelude.{◌≡◌};
 ghost use Rattle.word.specs.Index.{index_count, goes_past};
 
@@ -7,10 +6,10 @@ ghost use Rattle.word.specs.Index.{index_count, goes_past};
 pub type Index = u32;
 
 // The number of bits of an index.
-pub const INDEX_BITS: u32 = 32;
+pub const INDEX_BITS: u32 = Index::BITS;
 
 // The index of the last visit that a plan has.
-pub const LAST_INDEX: Index = ((1u64 << INDEX_BITS) - 1) as Index;
+pub const LAST_INDEX: Index = Index::MAX;
 
 // A generator matrix has a column for each bit of an index.
 pub const COLUMNS: usize = INDEX_BITS as usize;
@@ -22,7 +21,5 @@ pub type Columns = [u32; COLUMNS];
 pub fn goes_past(start: Index, count: u64) -> bool
     ensures { result ≡ goes_past index_count start count }
 {
-    let last = LAST_INDEX as u64;
-    let first = start as u64;
-    count > last - first + 1
+    count > u64::from(LAST_INDEX - start) + 1
 }

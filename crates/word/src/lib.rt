@@ -1,5 +1,5 @@
 // Words of 32 bits and the indexes that go with them: the product of a generator matrix with an index, the running sums of its columns,
-// the reversal of a word through a table of bytes, and the standard generator matrices, by their columns and by the fast way. What follows
+// the reversal of a word, and the standard generator matrices, by their columns and by the fast way. What follows
 // a product is not known here. Every function is proved for all inputs and none has a `requires`.
 #![tactic(auto)]
 

@@ -2,7 +2,7 @@
 ghost use Rattle.std.specs.Prelude.{◌≡◌};
 ghost use Rattle.net.specs.Generators.{product};
 
-use crate::{COLUMNS, Columns, Index};
+use crate::{Columns, Index};
 
 // The exclusive or of the columns whose index bit is set. Each column is multiplied by its bit, so that no branch depends on the index.
 pub fn product(columns: Columns, index: Index) -> u32
@@ -10,11 +10,9 @@ pub fn product(columns: Columns, index: Index) -> u32
 {
     let mut sum = 0u32;
     let mut rest = index;
-    let mut c: usize = 0;
-    while c < COLUMNS {
-        sum ^= columns[c] * (rest % 2);
+    for column in columns {
+        sum ^= column * (rest % 2);
         rest /= 2;
-        c += 1;
     }
     sum
 }

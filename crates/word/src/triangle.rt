@@ -4,15 +4,13 @@ ghost use Rattle.digits.specs.Digits.{reversed};
 ghost use Rattle.net.specs.Generators.{product};
 ghost use Rattle.word.specs.Matrices.{standard_matrices};
 
-// The shift widths of the five steps, and the bits that each step moves.
-const WIDTHS: [u32; 5] = [16, 8, 4, 2, 1];
-
-const MASKS: [u32; 5] = [
-    0x0000_ffff,
-    0x00ff_00ff,
-    0x0f0f_0f0f,
-    0x3333_3333,
-    0x5555_5555,
+// The five steps: the shift width of each, and a mask of the bits that it moves.
+const STEPS: [(u32, u32); 5] = [
+    (16, 0x0000_ffff),
+    (8, 0x00ff_00ff),
+    (4, 0x0f0f_0f0f),
+    (2, 0x3333_3333),
+    (1, 0x5555_5555),
 ];
 
 // From a reversed index to the second coordinate of the standard matrices. Each step adds to one half of every group of bits the
@@ -20,13 +18,9 @@ const MASKS: [u32; 5] = [
 pub fn pascal(word: u32) -> u32
     ensures { result ≡ product 2 standard_matrices.Y (reversed 2 32 word) }
 {
-    let widths = WIDTHS;
-    let masks = MASKS;
     let mut sum = word;
-    let mut k: usize = 0;
-    while k < 5 {
-        sum ^= (sum & masks[k]) << widths[k];
-        k += 1;
+    for (width, mask) in STEPS {
+        sum ^= (sum & mask) << width;
     }
     sum
 }

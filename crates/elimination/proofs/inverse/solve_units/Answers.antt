@@ -1,17 +1,13 @@
--- `solve_units`: after c turns the first c columns are a basis of the model, and the columns after them and the unit words are cleared by it.
-use mathlib.Core.Path.{refl, sym, ◌∙◌}
-use Prim.Native.Nat.{◌^◌}
-use native.Mathlib.Omega.{arith}
-use borrow.Author.Rules.{rules}
-use lib.ListN.{get_or, get_or-replicate}
-use mir.Syntax.{w32}
-use mir.Val.{Fits}
+-- `solve_units`: the pivots are the model's.
+use Rattle.std.proofs.Common.{sym, ◌^◌, arith, rules, Fits, get_or, w32}
+use Rattle.std.proofs.Math.ListN.{get_or-replicate}
+use Rattle.std.proofs.lemmas.Result.{err_from_is_err_and}
 use Rattle.ranges.specs.Below.{Below}
 use Rattle.ranges.proofs.Below.{below_of}
 use Rattle.digits.proofs.Two.{one_lt_two}
 use Rattle.net.proofs.Product.{product-additive, product-pow}
-use Rattle.elimination.proofs.Refinement.{pending_none, pending_kernel, pending_more}
-use Rattle.elimination.proofs.Outcomes.{inverted_kernel, inverted}
+use Rattle.elimination.proofs.Refinement.{pending_none, pending_more}
+use Rattle.elimination.proofs.Outcomes.{positive, inverted_kernel, inverted}
 use Rattle.elimination.proofs.inverse.solve_units.Goals as goal
 use Rattle.elimination.proofs.inverse.solve_units.Goals.{Start}
 
@@ -21,54 +17,26 @@ words s = below_of (2 ^ 32) s.args.columns (λ t. let f : Fits w32 (get_or s.arg
 
 pub loop-c-init : goal.loop-c-init
 loop-c-init c =
-    let u = c.unit_words-indexes.ensures in
-    let v = c.unit_words-rests.ensures in (
-      omega arith,
-      (search rules, u.long),
-      (v.long, refl),
-      pending_none (record {
-        columns = λ d h. (sym (product-pow one_lt_two _ d), u.each d (omega arith));
-        asked_for = λ t h. (v.each t (omega arith), get_or-replicate 32 t 0 0 (omega arith));
-      }),
-    )
+    pending_none (record {
+      columns = λ d h. (sym (product-pow one_lt_two _ d), c.unit_words.ensures.each d (omega arith));
+      asked_for = λ t h. (c.unit_words-2.ensures.each t (omega arith), get_or-replicate 32 t 0 0 (omega arith));
+    })
 
-pub returns-then-pivot-eq0 : goal.returns-then-pivot-eq0
-returns-then-pivot-eq0 c =
-    let l = c.loop-c in
-    inverted_kernel c.args.columns (words (goal.at.returns-then-pivot-eq0 c).Start) c.args.n (get_or l.indexes l.c 0)
-    (pending_kernel (product-additive one_lt_two _) l.invariant.3 (omega arith) c.if-pivot-eq0.true)
+pub pivot-requires-clause-some : goal.pivot-requires-clause-some
+pivot-requires-clause-some c =
+    positive c.args.columns (words (goal.at.pivot-requires-clause-some c).Start) c.args.n c.loop-c.invariant (omega arith)
 
-pub slice_bounds-clear-end : goal.slice_bounds-clear-end
-slice_bounds-clear-end c = sym c.loop-c.invariant.1.0
-
-pub slice_bounds-clear-end-in-loop-c : goal.slice_bounds-clear-end-in-loop-c
-slice_bounds-clear-end-in-loop-c c = sym c.loop-c.invariant.1.1
-
-pub clear-requires : goal.clear-requires
-clear-requires c = (c.if-pivot-eq0.false, c.requires, omega arith, c.loop-c.invariant.1)
-
-pub slice_bounds-clear-end-in-loop-c-2 : goal.slice_bounds-clear-end-in-loop-c-2
-slice_bounds-clear-end-in-loop-c-2 c = sym c.loop-c.invariant.2.0
-
-pub slice_bounds-clear-end-in-loop-c-3 : goal.slice_bounds-clear-end-in-loop-c-3
-slice_bounds-clear-end-in-loop-c-3 c = sym c.loop-c.invariant.2.1
-
-pub clear-requires-in-loop-c : goal.clear-requires-in-loop-c
-clear-requires-in-loop-c c = (c.if-pivot-eq0.false, c.requires, omega arith, c.loop-c.invariant.2)
+pub returns-in_err-pivot : goal.returns-in_err-pivot
+returns-in_err-pivot c =
+    let p = err_from_is_err_and c.from_residual.result c.from_residual.ensures.1 in
+    rw (p.1, p.2) (inverted_kernel c.args.columns (words (goal.at.returns-in_err-pivot c).Start) c.args.n c.loop-c.invariant
+    (omega arith) c.in_err-pivot.ensures.0 _ c.in_err-pivot.ensures.1)
 
 pub loop-c-preserved : goal.loop-c-preserved
 loop-c-preserved c =
-    let l = c.loop-c in
-    let p = c.clear in
-    let q = c.clear-in-loop-c in (
-      omega arith,
-      (p.auto.words ∙ l.invariant.1.0, p.auto.indexes ∙ l.invariant.1.1),
-      (q.auto.words ∙ l.invariant.2.0, q.auto.indexes ∙ l.invariant.2.1),
-      pending_more (product-additive one_lt_two _) l.invariant.3 (omega arith) p.new.words p.new.indexes q.new.words q.new.indexes _ _
-          refl refl c.if-pivot-eq0.false p.ensures q.ensures (omega arith),
-    )
+    let p = c.in_ok-pivot in
+    pending_more (product-additive one_lt_two _) c.loop-c.invariant (omega arith) _ _ _ _ p.pivot.word p.pivot.index
+    p.ensures.1 p.ensures.2 p.ensures.0 c.clear.ensures c.clear-in-loop-c.ensures (omega arith)
 
 pub returns : goal.returns
-returns c =
-    let l = c.loop-c in
-    inverted c.args.columns (words (goal.at.returns c).Start) c.args.n l.invariant.3 (omega arith)
+returns c = inverted c.args.columns (words (goal.at.returns c).Start) c.args.n c.loop-c.invariant (omega arith)

@@ -9,23 +9,17 @@ use lib.Dec.{leb}
 use lib.ListN.{length}
 use Rattle.text.specs.Ascii.{line_feed}
 use Rattle.text.specs.Decimal.{number_text, longest_number}
-use Rattle.text.proofs.Puts.{Writes, writes_keeps_length, writes_then, without_room, to_if_room, from_if_room}
+use Rattle.text.proofs.Puts.{Writes, writes_keeps_length, writes_then, to_if_room, from_if_room}
 use Rattle.text.proofs.Numbers.{number_longest}
 use Rattle.listing.specs.Listing.{refused_word, refused_text, longest_refusal}
 use Rattle.listing.proofs.refusals.refusal_line.Goals as goal
 use Rattle.listing.proofs.refusals.refusal_line.Goals.{Else-not-has_room}
 
-pub returns-then-not-has_room : goal.returns-then-not-has_room
-returns-then-not-has_room c =
-    let a = c.args in
-    let both = without_room longest_refusal a.out.now a.at (refused_text a.number) (sym c.has_room.ensures ∙ c.if-not-has_room.true) in
-    record { end = both.0; text = both.1 }
-
 room : (c : goal.Else-not-has_room) → leb (c.args.at + longest_refusal) (length c.args.out.now) ≡ true
 room c = sym c.has_room.ensures ∙ c.if-not-has_room.false
 
 pub returns : goal.returns
-unfolding refused_text
+unfolding refused_text number_text
 returns c =
     let a = c.args in
     let d = a.out.now in

@@ -1,136 +1,120 @@
--- `chains::judge_chain`. The loop's invariant: the chain from n on, with as many links as records are free and the marked ones as visited,
--- is judged as the whole chain, and its judgement stops at the same link. The measure is the number of free records.
--- Assumes nothing.
+-- `chains::judge_chain`. The loop's invariant: the chain from the link on, with as many links as records are free and the marked ones as
+-- visited, is judged as the whole chain, and its judgement stops at the same link. The measure is the number of free records.
 use mathlib.Core.Path.{◌≡◌, sym, ap, ap₂, ◌∙◌}
-use mathlib.Core.Bool.{Bool}
+use mathlib.Core.Bool.{Bool, true, false}
 use mathlib.Core.List.{List}
-use Prim.Native.Nat.{ℕ, ◌<◌, ◌≤◌}
+use Prim.Native.Nat.{ℕ, ◌<◌}
 use native.Mathlib.Omega.{arith}
 use borrow.Author.Rules.{rules}
-use lib.ListN.{length, get_or, set, length-set, length-replicate}
+use lib.ListN.{length, set, length-set, length-replicate}
 use lib.Seq.{get_or-set_other}
 use Rattle.refusal.specs.Outcome.{accepted}
-use Rattle.refusal.specs.Refusal.{of_judgement}
 use Rattle.region_file.specs.declared.records.Record.{Record}
-use Rattle.region_file.specs.Records.{record_count, most_records}
+use Rattle.region_file.specs.declared.chains.Link.{Link}
+use Rattle.region_file.specs.Records.{most_records}
 use Rattle.region_file.specs.Judge.{listing_tests, link_outcome, nowhere, chain_outcome, chain_stop}
-use Rattle.region_file.proofs.Marks.{marked, free, free_fresh, fresh_at, marked_fresh, free-set, free-some, marked-set, unmarked}
+use Rattle.region_file.proofs.Marks.{marked, free, free_fresh, fresh_at, marked_fresh, free-set, free-some, marked-set}
 use Rattle.region_file.proofs.Chain.{passed, chain_end, chain_refused, chain_next}
 use Rattle.region_file.proofs.Stop.{stop-end, stop-refused, stop-next}
-use Rattle.region_file.proofs.chains.judge_chain.Invariants.{from}
 use Rattle.region_file.proofs.chains.judge_chain.Goals as goal
-use Rattle.region_file.proofs.chains.judge_chain.Goals.{After-judge_named-judged, In_default}
+use Rattle.region_file.proofs.chains.judge_chain.Goals.{After-unwrap_or-seen, In_default}
 
--- a link that passes names an unmarked record of the file
-record Taken (file ms : List ℕ) (n : ℕ) : Type 0 where
-  pub passes : link_outcome (listing_tests file) file (marked ms n) n ≡ accepted tt
-  pub here : n < length ms
-  pub clear : get_or ms n 0 ≡ 0
+abbrev from : ℕ → ℕ → Link
+from holder n = record { holder = holder; named = n }
 
-taken : (file ms : List ℕ) (n : ℕ) → record_count file ≤ most_records → length ms ≡ most_records
-    → link_outcome (listing_tests file) file (marked ms n) n ≡ accepted tt → Taken file ms n
-taken file ms n few l h =
-    let p = (passed (listing_tests file) file (marked ms n) n h).0 in
-    let o = p.here in
-    record { passes = h; here = omega (arith, o); clear = unmarked ms n p.fresh }
-
-pub loop-n-init : goal.loop-n-init
-loop-n-init c =
-    let a = c.args in
-    let file = a.file.now in (
-      length-replicate {A = ℕ} most_records 0,
-      fresh_at most_records 0,
-      search rules,
-      search rules,
-      ap₂ (λ (f : ℕ) (m : ℕ → Bool). chain_outcome (listing_tests file) file f m c.first_record-n.result)
-          (free_fresh most_records) (marked_fresh most_records)
-          ∙ ap (chain_outcome (listing_tests file) file most_records nowhere) c.first_record-n.ensures,
-      ap₂ (λ (f : ℕ) (m : ℕ → Bool). chain_stop (listing_tests file) file f m (from 0 c.first_record-n.result))
-          (free_fresh most_records) (marked_fresh most_records)
-          ∙ ap (λ (n : ℕ). chain_stop (listing_tests file) file most_records nowhere (from 0 n)) c.first_record-n.ensures,
-    )
-
--- what the tests of the link come to, by the marks
-link_judged : (c : goal.After-judge_named-judged)
-    → let file = c.args.file.now in
-    link_outcome (listing_tests file) file
-    (marked c.loop-n.marks c.loop-n.n)
-    c.loop-n.n
-    ≡ of_judgement c.judge_named-judged.result
-unfolding marked
-link_judged c =
-    let a = c.args in
-    let file = a.file.now in
-    sym (c.judge_named-judged.ensures ∙ ap (λ (x : Bool). link_outcome (listing_tests file) file x c.loop-n.n)
-    c.is_marked-seen.ensures)
-
-pub returns-in-Refused : goal.returns-in-Refused
-returns-in-Refused c =
-    let a = c.args in
-    let file = a.file.now in
-    let i = c.loop-n in
-    let ne = c.loop-n-test.true in
-    let refuses = link_judged (goal.at.returns-in-Refused c).After-judge_named-judged ∙ ap of_judgement c.in-Refused.is in record {
-      judgement = sym (chain_refused (listing_tests file) file (marked i.marks) i.n ne (free i.marks)
-          (free-some i.marks i.invariant.0 i.invariant.1) refuses)
-          ∙ i.invariant.4;
-      link = sym (stop-refused (listing_tests file) file (marked i.marks) (from i.holder i.n) (free i.marks) ne refuses) ∙ i.invariant.5;
+pub loop-link-init : goal.loop-link-init
+loop-link-init c =
+    let file = c.args.file.now in
+    let n = c.first_record.result in record {
+      whole = length-replicate {A = Bool} most_records false;
+      head_free = fresh_at most_records 0;
+      named = c.first_record.type_inv;
+      judged = ap₂ (λ (f : ℕ) (m : ℕ → Bool). chain_outcome (listing_tests file) file f m n) (free_fresh most_records) (marked_fresh most_records)
+          ∙ ap (chain_outcome (listing_tests file) file most_records nowhere) c.first_record.ensures;
+      stops = ap₂ (λ (f : ℕ) (m : ℕ → Bool). chain_stop (listing_tests file) file f m (from 0 n)) (free_fresh most_records)
+          (marked_fresh most_records)
+          ∙ ap (λ (k : ℕ). chain_stop (listing_tests file) file most_records nowhere (from 0 k)) c.first_record.ensures;
     }
 
-took : (c : goal.In_default) → Taken c.args.file.now
-    c.loop-n.marks c.loop-n.n
-took c =
-    let a = c.args in
-    let file = a.file.now in
-    let i = c.loop-n in
-    taken file i.marks i.n c.requires i.invariant.0
-    (link_judged (goal.at.bounds-marks-at c).After-judge_named-judged ∙ ap of_judgement c.in_default.is)
+-- the code reads whether the record that the link names is marked
+seen : (c : goal.After-unwrap_or-seen) → c.unwrap_or-seen.result ≡ marked c.loop-link.marks c.loop-link.link.named
+seen c = search rules
 
-pub bounds-marks-at : goal.bounds-marks-at
-bounds-marks-at c = let t = took c in omega (arith, t.here)
-
-pub loop-n-smaller : goal.loop-n-smaller
-loop-n-smaller c =
-    let i = c.loop-n in
-    let t = took (goal.at.loop-n-smaller c).In_default in
-    omega (arith, free-set i.marks i.n t.here t.clear)
-
-pub loop-n-preserved : goal.loop-n-preserved
-loop-n-preserved c =
-    let a = c.args in
-    let file = a.file.now in
-    let i = c.loop-n in
-    let t = took (goal.at.loop-n-preserved c).In_default in
+pub returns-in-Err : goal.returns-in-Err
+returns-in-Err c =
+    let file = c.args.file.now in
+    let i = c.loop-link in
     let v = marked i.marks in
-    let left = set i.marks i.n 1 in
-    let ne = c.loop-n-test.true in
-    let q : ◌≡◌ {A = ℕ} 0 i.n → ⊥ = (λ x. ne (sym x)) in (
-      length-set i.marks i.n 1 ∙ i.invariant.0,
-      get_or-set_other i.marks i.n 0 1 0 q ∙ i.invariant.1,
-      search rules,
-      search rules,
-      ap₂ (λ (m : ℕ → Bool) (k : ℕ). chain_outcome (listing_tests file) file (free left) m k) (marked-set i.marks i.n t.here)
-          (ap (λ (x : Record). x.next) c.record_at-passed.ensures)
-          ∙ sym (chain_next (listing_tests file) file v i.n ne (free left) t.passes)
-          ∙ ap (λ (f : ℕ). chain_outcome (listing_tests file) file f v i.n) (sym (free-set i.marks i.n t.here t.clear))
-          ∙ i.invariant.4,
-      ap₂ (λ (m : ℕ → Bool) (k : ℕ). chain_stop (listing_tests file) file (free left) m (from i.n k))
-          (marked-set i.marks i.n t.here)
-          (ap (λ (x : Record). x.next) c.record_at-passed.ensures)
-          ∙ sym (stop-next (listing_tests file) file v (from i.holder i.n) (free left) ne t.passes)
-          ∙ ap (λ (f : ℕ). chain_stop (listing_tests file) file f v (from i.holder i.n))
-          (sym (free-set i.marks i.n t.here t.clear))
-          ∙ i.invariant.5,
-    )
+    let ne = c.loop-link-test.true in
+    let refuses = ap (λ (b : Bool). link_outcome (listing_tests file) file b i.link.named)
+    (sym (seen (goal.at.returns-in-Err c).After-unwrap_or-seen))
+    ∙ sym c.in-Err.ensures in
+    let some = free-some i.marks i.invariant.whole i.invariant.head_free in record {
+      judgement = sym (chain_refused (listing_tests file) file v i.link.named ne (free i.marks) some refuses) ∙ i.invariant.judged;
+      link = sym (stop-refused (listing_tests file) file v i.link (free i.marks) ne refuses) ∙ i.invariant.stops;
+    }
+
+-- a link that passes names an unmarked record of the file
+record Taken (file : List ℕ) (ms : List Bool) (n : ℕ) : Type 0 where
+  pub passes : link_outcome (listing_tests file) file (marked ms n) n ≡ accepted tt
+  pub here : n < length ms
+  pub clear : marked ms n ≡ false
+
+taken : (c : In_default) → Taken c.args.file.now c.loop-link.marks c.loop-link.link.named
+taken c =
+    let file = c.args.file.now in
+    let i = c.loop-link in
+    let n = i.link.named in
+    let h : link_outcome (listing_tests file) file (marked i.marks n) n ≡ accepted tt =
+    ap (λ (b : Bool). link_outcome (listing_tests file) file b n) (sym (seen (goal.at.bounds-marks-n c).After-unwrap_or-seen))
+    ∙ sym c.in_default.ensures in
+    let p = (passed (listing_tests file) file (marked i.marks n) n h).0 in
+    let few = c.requires in
+    let long = i.invariant.whole in
+    let here = p.here in
+    record { passes = h; here = omega (arith, here, few, long); clear = p.fresh }
+
+pub bounds-marks-n : goal.bounds-marks-n
+bounds-marks-n c = let t = taken c in omega (arith, t.here)
+
+pub loop-link-smaller : goal.loop-link-smaller
+loop-link-smaller c =
+    let i = c.loop-link in
+    let t = taken (goal.at.loop-link-smaller c).In_default in
+    omega (arith, free-set i.marks i.link.named t.here t.clear)
+
+pub loop-link-preserved : goal.loop-link-preserved
+loop-link-preserved c =
+    let file = c.args.file.now in
+    let i = c.loop-link in
+    let n = i.link.named in
+    let t = taken (goal.at.loop-link-preserved c).In_default in
+    let v = marked i.marks in
+    let left = set i.marks n true in
+    let ne = c.loop-link-test.true in
+    let less = sym (free-set i.marks n t.here t.clear) in
+    let next = ap (λ (r : Record). r.next) c.record_at-passed.ensures in
+    let q : ◌≡◌ {A = ℕ} 0 n → ⊥ = (λ x. ne (sym x)) in record {
+      whole = length-set i.marks n true ∙ i.invariant.whole;
+      head_free = get_or-set_other i.marks n 0 true false q ∙ i.invariant.head_free;
+      named = search rules;
+      judged = ap₂ (λ (m : ℕ → Bool) (k : ℕ). chain_outcome (listing_tests file) file (free left) m k) (marked-set i.marks n t.here) next
+          ∙ sym (chain_next (listing_tests file) file v n ne (free left) t.passes)
+          ∙ ap (λ (f : ℕ). chain_outcome (listing_tests file) file f v n) less
+          ∙ i.invariant.judged;
+      stops = ap₂ (λ (m : ℕ → Bool) (k : ℕ). chain_stop (listing_tests file) file (free left) m (from n k)) (marked-set i.marks n t.here) next
+          ∙ sym (stop-next (listing_tests file) file v i.link (free left) ne t.passes)
+          ∙ ap (λ (f : ℕ). chain_stop (listing_tests file) file f v i.link) less
+          ∙ i.invariant.stops;
+    }
 
 pub returns : goal.returns
 returns c =
-    let a = c.args in
-    let file = a.file.now in
-    let i = c.loop-n in record {
-      judgement = sym (chain_end (listing_tests file) file (free i.marks) (free-some i.marks i.invariant.0 i.invariant.1) (marked i.marks) i.n
-          c.loop-n-test.false)
-          ∙ i.invariant.4;
-      link = sym (stop-end (listing_tests file) file (marked i.marks) (from i.holder i.n) (free i.marks) c.loop-n-test.false)
-          ∙ i.invariant.5;
+    let file = c.args.file.now in
+    let i = c.loop-link in
+    let v = marked i.marks in
+    let end = c.loop-link-test.false in
+    let some = free-some i.marks i.invariant.whole i.invariant.head_free in record {
+      judgement = sym (chain_end (listing_tests file) file (free i.marks) some v i.link.named end) ∙ i.invariant.judged;
+      link = sym (stop-end (listing_tests file) file v i.link (free i.marks) end) ∙ i.invariant.stops;
     }

@@ -1,7 +1,8 @@
--- `chains::judge_chain`. The loop's invariant: the chain from n on, with as many links as records are free and the marked ones as visited,
--- is judged as the whole chain, and its judgement stops at the same link. The measure is the number of free records.
--- Assumes nothing.
+-- `chains::judge_chain`. The loop's invariant: the chain from the link on, with as many links as records are free and the marked ones as
+-- visited, is judged as the whole chain, and its judgement stops at the same link. The measure is the number of free records.
 use mathlib.Core.Path.{◌≡◌}
+use mathlib.Core.Bool.{Bool, false}
+use mathlib.Core.List.{List}
 use Prim.Native.Nat.{ℕ, ◌<◌, ◌^◌}
 use lib.ListN.{length, get_or}
 use Rattle.region_file.specs.declared.chains.Link.{Link}
@@ -11,17 +12,17 @@ use Rattle.region_file.specs.Judge.{listing_tests, nowhere, chain_outcome, chain
 use Rattle.region_file.proofs.Marks.{marked, free}
 use Rattle.region_file.proofs.chains.judge_chain.Given as goal
 
--- the link at which the loop stands
-abbrev pub from : ℕ → ℕ → Link
-from holder n = record { holder = holder; named = n }
+pub record Judging (file : List ℕ) (marks : List Bool) (link : Link) : Type 0 where
+  pub whole : length marks ≡ most_records
+  pub head_free : get_or marks 0 false ≡ false
+  pub named : link.named < 2 ^ 32
+  pub judged : chain_outcome (listing_tests file) file (free marks) (marked marks) link.named
+      ≡ chain_outcome (listing_tests file) file most_records nowhere (first_record file)
+  pub stops : chain_stop (listing_tests file) file (free marks) (marked marks) link
+      ≡ chain_stop (listing_tests file) file most_records nowhere (first_link file)
 
-abbrev pub invariant-loop-n : goal.invariant-loop-n
-invariant-loop-n l =
-    (length l.marks ≡ most_records) × (get_or l.marks 0 0 ≡ 0) × (l.holder < 2 ^ 32) × (l.n < 2 ^ 32)
-    × (chain_outcome (listing_tests l.file) l.file (free l.marks) (marked l.marks) l.n
-    ≡ chain_outcome (listing_tests l.file) l.file most_records nowhere (first_record l.file))
-    × (chain_stop (listing_tests l.file) l.file (free l.marks) (marked l.marks) (from l.holder l.n)
-    ≡ chain_stop (listing_tests l.file) l.file most_records nowhere (first_link l.file))
+abbrev pub invariant-loop-link : goal.invariant-loop-link
+invariant-loop-link l = Judging l.file l.marks l.link
 
-abbrev pub decreases-loop-n : goal.decreases-loop-n
-decreases-loop-n l = free l.marks
+abbrev pub decreases-loop-link : goal.decreases-loop-link
+decreases-loop-link l = free l.marks

@@ -1,104 +1,82 @@
 -- `judge`: its tests are those of the definition, in its order.
-use mathlib.Core.Path.{◌≡◌, sym, ◌∙◌}
-use mathlib.Core.List.{List, []}
-use Prim.Native.Nat.{ℕ, ◌≤◌}
-use native.Mathlib.Omega.{arith}
-use borrow.Author.Tests.{lt-ltb, le-ltb, le-leb, lt-leb}
-use lib.ListN.{drop}
-use Rattle.digits.proofs.Digit.{lt_of-div}
-use Rattle.digits.proofs.Two.{one_lt_two}
-use Rattle.refusal.specs.Outcome.{Outcome, accepted, Test, first}
-use Rattle.refusal.specs.Refusal.{of_judgement}
-use Rattle.refusal.proofs.First.{first-none, first-refuses, first_passes, first-append}
-use Rattle.flips.specs.declared.sets.Flips.{Flips}
+use Rattle.std.specs.Prelude.{Err}
+use mathlib.Core.Path.{◌≡◌, sym, ap, ◌∙◌}
+use mathlib.Core.Bool.{false}
+use borrow.Author.Rules.{rules}
+use Rattle.refusal.specs.Outcome.{accepted}
+use Rattle.refusal.specs.Refusal.{of_result}
+use Rattle.refusal.proofs.Results.{stops, gives}
 use Rattle.flips.specs.Load.{flips_tests, flips_outcome}
-use Rattle.flips.proofs.Judging.{flips-stop, flips-accepted}
-use Rattle.plan.proofs.Level.{level_of}
-use Rattle.stratify.specs.Answers.{query_tests}
-use Rattle.stratify.proofs.Tests.{past_limit, cell_first, past_flips}
+use Rattle.plan.specs.Pair.{scramble_lent, unknown_level}
+use Rattle.stratify.proofs.Tests.{level_refuses, flips_refuse, flips_pass, size_refuses, shape-refuses, cell_first, block_refuses, all-pass}
 use Rattle.stratify.proofs.judging.judge.Goals as goal
-use Rattle.stratify.proofs.judging.judge.Goals.{Else-a-m, Else-m-level, Else-outside, Else-unknown_level, In-Accepted, Start}
+use Rattle.stratify.proofs.judging.judge.Goals.{Else-unknown_level, In_ok-scramble}
 
-abbrev tests : goal.Start → Flips → List Test
-tests s f = let a = s.args in query_tests f a.level a.m a.a a.block a.column a.row
+known : (c : goal.Else-unknown_level) → (unknown_level c.args.level).holds ≡ false
+known c = sym c.unknown_level.ensures ∙ c.if-unknown_level.false
 
-abbrev after : Outcome Unit
-after = accepted tt
+fine : (c : goal.In_ok-scramble) → flips_outcome (scramble_lent c.args.lent).flips ≡ accepted tt
+fine c = flips_pass (scramble_lent c.args.lent).flips (accepted (scramble_lent c.args.lent)) c.in_ok-scramble.ensures
 
--- the judgement that came in is that of these flips
-abbrev Of : goal.Start → Flips → Type 0
-Of s f = of_judgement s.args.flips ≡ flips_outcome f
+pub returns-then-unknown_level-clause-scramble : goal.returns-then-unknown_level-clause-scramble
+returns-then-unknown_level-clause-scramble c =
+    let a = c.args in
+    let s = scramble_lent a.lent in
+    level_refuses (accepted s) s.flips a.level a.m a.a a.block a.column a.row
+    (sym c.unknown_level.ensures ∙ c.if-unknown_level.true)
 
--- the first n tests do not hold
-abbrev Passed : ℕ → goal.Start → Flips → Type 0
-Passed n s f = first (tests s f) after ≡ first (drop n (tests s f)) after
+pub returns-in_err-scramble-clause-scramble : goal.returns-in_err-scramble-clause-scramble
+returns-in_err-scramble-clause-scramble c =
+    let a = c.args in
+    let s = scramble_lent a.lent in
+    let why = c.in_err-scramble.field-0.0 in
+    let back : c.from_residual.result ≡ Err why = search rules in
+    ap (of_result (λ j. j.0)) back
+    ∙ flips_refuse (accepted s) s.flips a.level a.m a.a a.block a.column a.row
+    (known (goal.at.returns-in_err-scramble-clause-scramble c).Else-unknown_level)
+    (stops (λ t. t) (flips_tests s.flips) s c.load.result c.load.ensures why c.in_err-scramble.was _)
 
--- past the first test the level is at most the largest
-level_within : (c : goal.Else-unknown_level) → c.args.level ≤ 32
-level_within c = (level_of c.args.level (sym c.unknown_level.ensures ∙ c.if-unknown_level.false)).not_above
+pub returns-then-m-level-clause-scramble : goal.returns-then-m-level-clause-scramble
+returns-then-m-level-clause-scramble c =
+    let a = c.args in
+    let s = scramble_lent a.lent in
+    let p = goal.at.returns-then-m-level-clause-scramble c in
+    size_refuses (accepted s) s.flips a.level a.m a.a a.block a.column a.row
+    (known p.Else-unknown_level) (fine p.In_ok-scramble) c.if-m-level.true
 
-level_passed : (c : goal.Else-unknown_level) (f : Flips) → (first ((let a = c.args in query_tests f a.level a.m a.a a.block a.column a.row)) after
-    ≡ first (drop 1 ((let a = c.args in query_tests f a.level a.m a.a a.block a.column a.row))) after)
-level_passed c f = first_passes after 2 _ (sym c.unknown_level.ensures ∙ c.if-unknown_level.false)
+pub returns-then-a-m-clause-scramble : goal.returns-then-a-m-clause-scramble
+returns-then-a-m-clause-scramble c =
+    let a = c.args in
+    let s = scramble_lent a.lent in
+    let p = goal.at.returns-then-a-m-clause-scramble c in
+    shape-refuses (accepted s) s.flips a.level a.m a.a a.block a.column a.row
+    (known p.Else-unknown_level) (fine p.In_ok-scramble) c.if-m-level.false c.if-a-m.true
 
-fine : (c : goal.In-Accepted) (f : Flips) → (of_judgement c.args.flips ≡ flips_outcome f) → flips_outcome f ≡ accepted tt
-fine c f is = flips-accepted f is c.in-Accepted.is
+pub returns-then-outside-clause-scramble : goal.returns-then-outside-clause-scramble
+returns-then-outside-clause-scramble c =
+    let a = c.args in
+    let s = scramble_lent a.lent in
+    let p = goal.at.returns-then-outside-clause-scramble c in
+    cell_first (accepted s) s.flips a.level a.m a.a a.block a.column a.row
+    (known p.Else-unknown_level) (fine p.In_ok-scramble) c.if-m-level.false c.if-a-m.false
+    (sym c.outside.ensures ∙ c.if-outside.true)
 
-flips-passed : (c : goal.In-Accepted) (f : Flips) → (of_judgement c.args.flips ≡ flips_outcome f) → (first ((let a = c.args in
-    query_tests f a.level a.m a.a a.block a.column a.row)) after ≡ first (drop 3 ((let a = c.args in
-    query_tests f a.level a.m a.a a.block a.column a.row))) after)
-flips-passed c f is = (let the_level_passed : (f : Flips) → (first ((let a = c.args in query_tests f a.level a.m a.a a.block a.column a.row)) after
-    ≡ first (drop 1 ((let a = c.args in query_tests f a.level a.m a.a a.block a.column a.row))) after) = λ f. first_passes after 2 _
-    (sym c.unknown_level.ensures ∙ c.if-unknown_level.false) in the_level_passed) f ∙ past_flips f after _ (fine c f is)
+pub returns-then-block-m-ne0-clause-scramble : goal.returns-then-block-m-ne0-clause-scramble
+returns-then-block-m-ne0-clause-scramble c =
+    let a = c.args in
+    let s = scramble_lent a.lent in
+    let p = goal.at.returns-then-block-m-ne0-clause-scramble c in
+    block_refuses (accepted s) s.flips a.level a.m a.a a.block a.column a.row
+    (known p.Else-unknown_level) (fine p.In_ok-scramble) c.if-m-level.false c.if-a-m.false
+    (sym c.outside.ensures ∙ c.if-outside.false) c.if-block-m-ne0.true
 
-size-passed : (c : goal.Else-m-level) (f : Flips) → (of_judgement c.args.flips ≡ flips_outcome f) → (first ((let a = c.args in
-    query_tests f a.level a.m a.a a.block a.column a.row)) after ≡ first (drop 4 ((let a = c.args in
-    query_tests f a.level a.m a.a a.block a.column a.row))) after)
-size-passed c f is = (let the_flips_passed : (f : Flips) → (of_judgement c.args.flips ≡ flips_outcome f) → (first ((let a = c.args in
-    query_tests f a.level a.m a.a a.block a.column a.row)) after ≡ first (drop 3 ((let a = c.args in
-    query_tests f a.level a.m a.a a.block a.column a.row))) after) = λ f is. (let the_level_passed : (f : Flips) → (first ((let a = c.args in
-    query_tests f a.level a.m a.a a.block a.column a.row)) after ≡ first (drop 1 ((let a = c.args in
-    query_tests f a.level a.m a.a a.block a.column a.row))) after) = λ f. first_passes after 2 _ (sym c.unknown_level.ensures
-    ∙ c.if-unknown_level.false) in the_level_passed) f ∙ past_flips f after _ ((let the_fine : (f : Flips) → (of_judgement c.args.flips
-    ≡ flips_outcome f) → flips_outcome f ≡ accepted tt = λ f is. flips-accepted f is c.in-Accepted.is in the_fine) f is) in
-    the_flips_passed) f is ∙ first_passes after 4 _ (le-ltb _ _ c.if-m-level.false)
-
-shape-passed : (c : goal.Else-a-m) (f : Flips) → Of (goal.at.outside-requires c).Start f → Passed 5 (goal.at.outside-requires c).Start f
-shape-passed c f is = size-passed (goal.at.outside-requires c).Else-m-level f is ∙ first_passes after 5 _ (le-ltb _ _ c.if-a-m.false)
-
-cell_passed : (c : goal.Else-outside) (f : Flips) → Of (goal.at.overflow_sub-m c).Start f → Passed 6 (goal.at.overflow_sub-m c).Start f
-cell_passed c f is = shape-passed (goal.at.overflow_sub-m c).Else-a-m f is ∙ first_passes after 6 _ (sym c.outside.ensures ∙ c.if-outside.false)
-
-pub returns-then-unknown_level : goal.returns-then-unknown_level
-returns-then-unknown_level c f is = sym (first-refuses after 2 _ (sym c.unknown_level.ensures ∙ c.if-unknown_level.true))
-
-pub returns-in-Refused : goal.returns-in-Refused
-returns-in-Refused c f is = flips-stop f is c.in-Refused.is _ ∙ sym (level_passed (goal.at.returns-in-Refused c).Else-unknown_level f
-    ∙ first-append (flips_tests f) _ after)
-
-pub returns-then-m-level : goal.returns-then-m-level
-returns-then-m-level c f is = sym (flips-passed (goal.at.returns-then-m-level c).In-Accepted f is
-    ∙ first-refuses after 4 _ (lt-ltb _ _ c.if-m-level.true))
-
-pub returns-then-a-m : goal.returns-then-a-m
-returns-then-a-m c f is = sym (size-passed (goal.at.returns-then-a-m c).Else-m-level f is ∙ first-refuses after 5 _ (lt-ltb _ _ c.if-a-m.true))
-
-pub outside-requires : goal.outside-requires
-outside-requires c = let k = level_within (goal.at.outside-requires c).Else-unknown_level in (omega arith, omega arith)
-
-pub returns-then-outside : goal.returns-then-outside
-returns-then-outside c f is =
-    let known = sym c.unknown_level.ensures ∙ c.if-unknown_level.false in
-    sym (cell_first after f _ _ _ _ _ _ (level_of _ known) (fine (goal.at.returns-then-outside c).In-Accepted f is) c.if-m-level.false c.if-a-m.false
-    (sym c.outside.ensures ∙ c.if-outside.true))
-
-pub overflow_sub-m : goal.overflow_sub-m
-overflow_sub-m c = let k = level_within (goal.at.overflow_sub-m c).Else-unknown_level in omega arith
-
-pub returns-then-block-m-ne0 : goal.returns-then-block-m-ne0
-returns-then-block-m-ne0 c f is = sym (cell_passed (goal.at.returns-then-block-m-ne0 c).Else-outside f is
-    ∙ first-refuses after 7 [] (le-leb _ _ (past_limit _ _ c.if-block-m-ne0.true)))
-
-pub returns : goal.returns
-returns c f is = sym (cell_passed (goal.at.returns c).Else-outside f is
-    ∙ first_passes after 7 [] (lt-leb _ _ (lt_of-div one_lt_two _ _ c.if-block-m-ne0.false)) ∙ first-none after)
+pub returns-clause-scramble : goal.returns-clause-scramble
+returns-clause-scramble c =
+    let a = c.args in
+    let s = scramble_lent a.lent in
+    let p = goal.at.returns-clause-scramble c in
+    ap accepted (gives (λ t. t) (flips_tests s.flips) s c.load.result c.load.ensures
+    c.in_ok-scramble.scramble c.in_ok-scramble.was)
+    ∙ all-pass (accepted s) s.flips a.level a.m a.a a.block a.column a.row
+    (known p.Else-unknown_level) (fine p.In_ok-scramble) c.if-m-level.false c.if-a-m.false
+    (sym c.outside.ensures ∙ c.if-outside.false) c.if-block-m-ne0.false

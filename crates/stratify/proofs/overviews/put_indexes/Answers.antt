@@ -1,38 +1,24 @@
 -- `put_indexes`: the front of the list is made of products.
-use mathlib.Core.Path.{◌≡◌, refl, sym, ap, ◌∙◌}
+use mathlib.Core.Path.{◌≡◌, sym, ap, ◌∙◌}
 use mathlib.Core.List.{List, ◌++◌, map}
 use Prim.Native.Nat.{ℕ, ◌<◌}
 use native.Mathlib.Numerals.{add-one}
 use native.Mathlib.Omega.{arith}
 use lib.Bits.{bit_xor}
-use lib.ListN.{length, get_or, set, take, drop, length-set}
-use Rattle.ranges.proofs.Mapped.{map-step, map_next, map_whole}
-use Rattle.stratify.proofs.overviews.put_indexes.Invariants.{index}
+use lib.ListN.{length, get_or, set, take, drop}
+use Rattle.ranges.proofs.Mapped.{map-step, map_next}
+use Rattle.net.specs.Generators.{product}
 use Rattle.stratify.proofs.overviews.put_indexes.Goals as goal
 
-pub loop-i-init : goal.loop-i-init
-loop-i-init c = (omega arith, refl, refl)
-
-pub loop-i-preserved : goal.loop-i-preserved
-loop-i-preserved c =
-    let l = c.loop-i in
+pub loop-answer-preserved : goal.loop-answer-preserved
+loop-answer-preserved c =
+    let l = c.loop-answer in
     let a = c.args in
     let old = a.answers.now in
-    let g = index a.inverse a.base in
-    let h : l.i < length old = omega arith in
-    let is : get_or l.answers l.i 0 ≡ get_or old l.i 0 = ap (λ (m : List ℕ). get_or m l.i 0) (sym l.invariant.2) ∙ map_next 0 g old l.i h in (
-      omega arith,
-      simp length-set l.invariant.1,
-      ap (λ (n : ℕ). map g (take n old) ++ drop n old) (add-one l.i)
-          ∙ sym (map-step 0 g old l.i _ h (ap (bit_xor a.base) c.product.ensures ∙ ap g is))
-          ∙ ap (λ (m : List ℕ). set m l.i (bit_xor a.base c.product.result)) l.invariant.2,
-    )
-
-pub shape_of-answers : goal.shape_of-answers
-shape_of-answers c = c.loop-i.invariant.1
-
-pub returns : goal.returns
-returns c =
-    let l = c.loop-i in
-    let a = c.args in
-    sym l.invariant.2 ∙ map_whole 0 (index a.inverse a.base) a.answers.now l.i (omega arith)
+    let i = l.answer-index in
+    let g : ℕ → ℕ = λ n. bit_xor a.base (product 2 a.inverse n) in
+    let h : i < length old = omega arith in
+    let is : get_or l.answers i 0 ≡ get_or old i 0 = ap (λ (m : List ℕ). get_or m i 0) (sym l.invariant) ∙ map_next 0 g old i h in
+    ap (λ (n : ℕ). map g (take n old) ++ drop n old) (add-one i)
+    ∙ sym (map-step 0 g old i _ h (ap (bit_xor a.base) c.product.ensures ∙ ap g is))
+    ∙ ap (λ (m : List ℕ). set m i (bit_xor a.base c.product.result)) l.invariant

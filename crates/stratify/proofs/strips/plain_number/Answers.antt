@@ -14,14 +14,14 @@ use Rattle.stratify.proofs.strips.plain_number.Goals.{After-plain_strip-r}
 
 -- the two strips by column and row
 made : (c : goal.After-plain_strip-r) → let a = c.args in
-    c.plain_strip-c.result * 2 ^ (a.m - a.a) + c.plain_strip-r.result ≡ plain_number a.scramble a.m a.a a.column a.row
+    c.plain_strip-c.result * 2 ^ (a.shape.m - a.shape.a) + c.plain_strip-r.result ≡ plain_number a.scramble a.shape.m a.shape.a a.column a.row
 unfolding serial
 made c =
     let a = c.args in
-    ap₂ (λ (u v : ℕ). u * 2 ^ (a.m - a.a) + v) c.plain_strip-c.ensures c.plain_strip-r.ensures
+    ap₂ (λ (u v : ℕ). u * 2 ^ (a.shape.m - a.shape.a) + v) c.plain_strip-c.ensures c.plain_strip-r.ensures
 
 pub plain_strip-c-requires : goal.plain_strip-c-requires
-plain_strip-c-requires c = let (wide, size, hc, hr) = c.requires in (omega arith, hc)
+plain_strip-c-requires c = let wide = c.args.shape.wide in let fits = c.args.shape.fits in (omega arith, c.requires.0)
 
 pub returns : goal.returns
 unfolding serial
@@ -29,8 +29,10 @@ returns c =
     let a = c.args in
     let fx : Fits w32 a.scramble.shift.x = search rules in
     let fy : Fits w32 a.scramble.shift.y = search rules in
-    let (wide, size, hc, hr) = c.requires in
-    let small = number_lt a.m a.a _ _ wide size
-    (strip_lt a.scramble.flips.x a.scramble.shift.x a.a a.column (omega arith) hc fx.fits)
-    (strip_lt a.scramble.flips.y a.scramble.shift.y (a.m - a.a) a.row (omega arith) hr fy.fits) in
+    let (hc, hr) = c.requires in
+    let wide = a.shape.wide in
+    let fits = a.shape.fits in
+    let small = number_lt a.shape.m a.shape.a _ _ wide fits
+    (strip_lt a.scramble.flips.x a.scramble.shift.x a.shape.a a.column (omega arith) hc fx.fits)
+    (strip_lt a.scramble.flips.y a.scramble.shift.y (a.shape.m - a.shape.a) a.row (omega arith) hr fy.fits) in
     joined-whole _ _ _ c.join.ensures (rw (made (goal.at.returns c).After-plain_strip-r) small) ∙ made (goal.at.returns c).After-plain_strip-r

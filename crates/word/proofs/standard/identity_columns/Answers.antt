@@ -1,21 +1,15 @@
--- `identity_columns`: after c turns the first c columns stand, and the word is column c.
-use Prim.Native.Nat.{◌/◌}
-use native.Mathlib.Omega.{arith}
-use Rattle.ranges.proofs.Filled.{running_none, running_more, filled_all}
+-- `identity_columns`: the half of a column is the next one.
+use Rattle.std.proofs.Common.{◌≡◌, ℕ, ◌+◌, ◌/◌, get_or, sym, ap, ◌∙◌, rules}
 use Rattle.digits.proofs.Two.{one_lt_two}
 use Rattle.net.specs.Standard.{identity_column}
 use Rattle.net.proofs.Columns.{identity-step}
+use Rattle.word.proofs.Stepped.{stepped}
 use Rattle.word.proofs.standard.identity_columns.Goals as goal
 
-pub loop-c-init : goal.loop-c-init
-unfolding identity_column
-loop-c-init c = (omega arith, running_none)
-
-pub bounds-columns-c : goal.bounds-columns-c
-bounds-columns-c c = c.loop-c-test.true
-
-pub loop-c-preserved : goal.loop-c-preserved
-loop-c-preserved c = (omega arith, running_more c.loop-c.invariant.1 (λ x. x / 2) (identity-step one_lt_two 32) (omega arith))
-
 pub returns : goal.returns
-returns c = filled_all c.loop-c.invariant.1.filled (omega arith)
+unfolding identity_column
+returns c =
+    let l = c.columns_by.result in
+    stepped (identity_column 2 32) l 32 (search rules) c.columns_by.ensures.first (λ k h is.
+    let half : get_or l (k + 1) 0 ≡ get_or l k 0 / 2 = search (rules, c.columns_by.ensures.next k h) in
+    half ∙ ap (λ (x : ℕ). x / 2) is ∙ sym (identity-step one_lt_two 32 k))

@@ -1,7 +1,5 @@
--- `prefixes`: the sum is the product with as many ones as columns are in it.
-use mathlib.Core.Path.{◌≡◌}
-use mathlib.Core.List.{List}
-use Prim.Native.Nat.{ℕ, suc, ◌-◌, ◌≤◌}
+-- `prefixes`: the sum is the product with as many ones as columns are in it, and the columns to come stand as they were.
+use Rattle.std.proofs.Common.{◌≡◌, ℕ, suc, ◌≤◌, List, get_or}
 use Rattle.ranges.proofs.Filled.{Filled}
 use Rattle.net.specs.Generators.{product}
 use Rattle.word.specs.Prefix.{ones}
@@ -11,11 +9,12 @@ use Rattle.word.proofs.sums.prefixes.Given as goal
 abbrev pub first : List ℕ → ℕ → ℕ
 first columns n = product 2 columns (ones 2 n)
 
-abbrev pub entry : List ℕ → ℕ → ℕ
-entry columns t = first columns (suc t)
+abbrev pub running : List ℕ → ℕ → ℕ
+running columns t = first columns (suc t)
 
-abbrev pub invariant-loop-c : goal.invariant-loop-c
-invariant-loop-c l = (l.c ≤ 32) × Filled (entry l.columns) 0 l.c l.initial.sums l.sums × (l.sum ≡ first l.columns l.c)
-
-abbrev pub decreases-loop-c : goal.decreases-loop-c
-decreases-loop-c l = 32 - l.c
+abbrev pub invariant-loop-entry : goal.invariant-loop-entry
+invariant-loop-entry l = record {
+  filled : Filled (running l.fn.columns) 0 l.entry-index l.fn.columns l.entry-items;
+  to_come : (k : ℕ) → l.entry-index ≤ k → get_or l.entry-items k 0 ≡ get_or l.fn.columns k 0;
+  sum_is : l.sum ≡ first l.fn.columns l.entry-index;
+}
