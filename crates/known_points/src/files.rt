@@ -2,6 +2,7 @@
 use crate::shown::Answer;
 use listing::Cursor;
 use std::io;
+use text::Pieces;
 
 // The bytes of a record.
 const RECORD_BYTES: usize = 32;
@@ -219,14 +220,22 @@ const LISTED: [[Put; 2]; 6] = [
     [(8, 300), (12, 400)],
 ];
 
+// The first piece of a text, in the buffer that is lent for it.
+pub fn first_piece<'a, C: Pieces + Drop>(
+    mut cursor: C,
+    file: &[u8],
+    space: &'a mut [u8],
+) -> &'a [u8] {
+    let n = cursor.piece(file, space);
+    &space[..n]
+}
+
 // The listing of each; a piece holds it whole.
 pub fn listings(out: &impl Print) -> io::Result<()> {
     println!(out; "list")?;
     for puts in LISTED {
         let file = changed(puts);
-        let mut space = [0u8; 4096];
-        let n = Cursor::open(&file).piece(&file, &mut space);
-        out.write_all(&space[..n])?;
+        out.write_all(first_piece(Cursor::open(&file), &file, &mut [0; 4096]))?;
     }
     Ok(())
 }

@@ -2,7 +2,7 @@
 ghost use Rattle.std.specs.Prelude.{◌≤◌};
 
 use crate::pairs::{OTHER, OTHER_SHIFT, plan_of, unflipped};
-use crate::shown::{Answer, Pair};
+use crate::shown::{Answer, Coordinates};
 use std::io;
 
 // What the buffers hold before a fill.
@@ -21,7 +21,7 @@ fn fill_lines(out: &impl Print, start: u32, n: usize, k: usize) -> io::Result<()
     let filled = plan::fill(plan_of(&OTHER), lent, start, &mut xs[..n], &mut ys[..k]);
     println!(out; "{start} {n} {}", Answer(filled.map(|()| "done")))?;
     for (x, y) in xs.into_iter().zip(ys).take(4) {
-        println!(out; "{}", Pair { x, y })?;
+        println!(out; "{}", Coordinates { x, y })?;
     }
     Ok(())
 }

@@ -2,7 +2,7 @@
 use crate::pairs::{NO_SHIFT, OTHER, flips, plan_of};
 use crate::points::point_lines;
 use crate::queries::{Query, query_line};
-use crate::shown::{Answer, Pair};
+use crate::shown::{Answer, Coordinates};
 use plan::{LentScramble, Plan};
 use std::io;
 
@@ -29,7 +29,7 @@ fn judged_line(out: &impl Print, x: &[u8], y: &[u8]) -> io::Result<()> {
         flips_x: x,
         flips_y: y,
     };
-    let point = Plan::standard_point(lent, 1).map(|at| Pair::from(at));
+    let point = Plan::standard_point(lent, 1).map(Coordinates::from);
     let last_x = x.last().copied().unwrap_or(0);
     let last_y = y.last().copied().unwrap_or(0);
     println!(out;

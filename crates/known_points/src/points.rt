@@ -1,6 +1,6 @@
 // The first points of a pair that is standard and of one that is not, plain and shifted.
 use crate::pairs::{FIRST_SHIFT, NO_SHIFT, OTHER, OTHER_SHIFT, plan_of, unflipped};
-use crate::shown::{Answer, Pair};
+use crate::shown::{Answer, Coordinates};
 use plan::{Plan, Point, Shift};
 use refusal::Refusal;
 use std::io;
@@ -14,7 +14,7 @@ pub fn point_lines<F: Fn(u32) -> Result<Point, Refusal>>(
     requires { F.IsAlwaysCallable point }
 {
     for index in 0..count {
-        println!(out; "{index} {}", Answer(point(index).map(|at| Pair::from(at))))?;
+        println!(out; "{index} {}", Answer(point(index).map(Coordinates::from)))?;
     }
     Ok(())
 }

@@ -1,70 +1,60 @@
 // Positions in regions: of the first visits of the standard pair with their singles, of single words, and of those with a reader's field.
 use crate::pairs::{FIRST_SHIFT, NO_SHIFT, unflipped};
-use crate::shown::{Answer, Pair};
-use plan::{Plan, Point, Scramble, Shift};
+use crate::shown::{Answer, Coordinates};
+use plan::{Plan, Scramble, Shift};
 use refusal::Refusal;
 use stage::{Field, Position, Region};
-use std::{fmt, io};
+use std::io;
 
 // The position or its refusal, for printing.
-fn answer(position: Result<Position, Refusal>) -> Answer<Pair<i32>> {
-    Answer(position.map(|at| Pair::from(at)))
+fn answer(position: Result<Position, Refusal>) -> Answer<Coordinates<i32>> {
+    Answer(position.map(Coordinates::from))
 }
 
-// The position and the singles of each of the first visits.
-fn visit_lines(out: &impl Print, region: Region, shift: Shift) -> io::Result<()> {
-    let Region {
+// A region by its left and top edge, its width and its height.
+type Sides = (i32, i32, u32, u32);
+
+fn region_of((left, top, width, height): Sides) -> Region {
+    Region {
         left,
         top,
         width,
         height,
-    } = region;
+    }
+}
+
+// The position and the singles of each of the first visits.
+fn visit_lines(out: &impl Print, sides: Sides, shift: Shift) -> io::Result<()> {
+    let (left, top, width, height) = sides;
     println!(out;
         "visits {left} {top} {width} {height} {} {}",
         shift.x, shift.y
     )?;
-    let plan = Plan::standard();
+    let region = region_of(sides);
     let none = Field {
         width: 0,
         height: 0,
     };
+    let plan = Plan::standard();
     for index in 0..1024 {
         let at = plan.scrambled_point(Scramble::of_shift(shift), index);
         let position = answer(region.position(none, at.x, at.y));
         let singles = unit::singles_at(plan, unflipped(shift), index);
         println!(out;
             "{index} {position} {}",
-            Answer(singles.map(|at| Pair::from(at)))
+            Answer(singles.map(Coordinates::from))
         )?;
     }
     Ok(())
 }
 
 pub fn visits(out: &impl Print) -> io::Result<()> {
-    let first = Region {
-        left: -500,
-        top: 0,
-        width: 1000,
-        height: 800,
-    };
-    let second = Region {
-        left: -1000000,
-        top: 1000000,
-        width: 1000000,
-        height: 999983,
-    };
-    visit_lines(out, first, NO_SHIFT)?;
-    visit_lines(out, second, FIRST_SHIFT)
+    visit_lines(out, (-500, 0, 1000, 800), NO_SHIFT)?;
+    visit_lines(out, (-1000000, 1000000, 1000000, 999983), FIRST_SHIFT)
 }
 
-// A region by its left and top edge, its width and its height.
-type Sides = (i32, i32, u32, u32);
-
-// A region and the words of a point.
-type Case = (Sides, [u32; 2]);
-
-// The floor, and the ends.
-const POSITIONS: [Case; 4] = [
+// The floor, and the ends: a region and the words of a point.
+const POSITIONS: [(Sides, [u32; 2]); 4] = [
     ((-1, -1, 3, 3), [1073741824, 3221225472]),
     ((-1000000, -1000000, 1, 1), [4294967295, 4294967295]),
     (
@@ -90,20 +80,13 @@ const REFUSED: [Sides; 12] = [
     (0, 0, 1, 4294967295),
 ];
 
-fn position_line(out: &impl Print, sides: Sides, point: [u32; 2]) -> io::Result<()> {
+fn position_line(out: &impl Print, sides: Sides, [x, y]: [u32; 2]) -> io::Result<()> {
     let (left, top, width, height) = sides;
-    let [x, y] = point;
-    let region = Region {
-        left,
-        top,
-        width,
-        height,
-    };
     let one = Field {
         width: 1,
         height: 1,
     };
-    let position = answer(region.position(one, x, y));
+    let position = answer(region_of(sides).position(one, x, y));
     println!(out; "{left} {top} {width} {height} {x} {y} {position}")
 }
 
@@ -118,11 +101,8 @@ pub fn positions(out: &impl Print) -> io::Result<()> {
     Ok(())
 }
 
-// A region, the width and the height of the reader's field, and the words of a point.
-type FieldCase = (Sides, [u32; 2], [u32; 2]);
-
-// C-12's example, a field on each axis, 0 and 1, and a field as large as the region.
-const FIELDS: [FieldCase; 11] = [
+// C-12's example, a field on each axis, 0 and 1, and a field as large as the region: each with its region and the words of a point.
+const FIELDS: [(Sides, [u32; 2], [u32; 2]); 11] = [
     ((0, 0, 1000, 1000), [200, 200], [3221225472, 3221225472]),
     ((-500, 0, 1000, 800), [200, 100], [3221225472, 2147483648]),
     ((-500, 0, 1000, 800), [100, 200], [3221225472, 2147483648]),
@@ -153,21 +133,12 @@ const REFUSED_FIELDS: [(Sides, [u32; 2]); 9] = [
     ((0, 0, 1000001, 1), [1000001, 1]),
 ];
 
-fn field_line(out: &impl Print, sides: Sides, field: [u32; 2], point: [u32; 2]) -> io::Result<()> {
-    let (left, top, width, height) = sides;
-    let region = Region {
-        left,
-        top,
-        width,
-        height,
-    };
+fn field_line(out: &impl Print, sides: Sides, field: [u32; 2], [x, y]: [u32; 2]) -> io::Result<()> {
+    let region = region_of(sides);
     let [width, height] = field;
-    let [x, y] = point;
     let position = answer(region.position(Field { width, height }, x, y));
-    println!(out;
-        "{left} {top} {} {} {width} {height} {x} {y} {position}",
-        region.width, region.height
-    )
+    let (left, top, across, down) = sides;
+    println!(out; "{left} {top} {across} {down} {width} {height} {x} {y} {position}")
 }
 
 pub fn fields(out: &impl Print) -> io::Result<()> {

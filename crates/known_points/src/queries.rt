@@ -7,7 +7,7 @@ use plan::{LentScramble, Plan};
 use std::{fmt, io};
 
 // A cell of the shape (m, a), and a block.
-#[derive(Clone, Copy)]
+#[derive(Clone, Copy, Default)]
 pub struct Query {
     pub m: u32,
     pub a: u32,
@@ -18,14 +18,11 @@ pub struct Query {
 
 impl fmt::Display for Query {
     fn fmt<W: fmt::Write>(&self, f: &mut fmt::Formatter<W>) -> fmt::Result {
-        let Query {
-            m,
-            a,
-            column,
-            row,
-            block,
-        } = self;
-        write!(f, "{m} {a} {column} {row} {block}")
+        write!(
+            f,
+            "{} {} {} {} {}",
+            self.m, self.a, self.column, self.row, self.block
+        )
     }
 }
 
@@ -54,7 +51,7 @@ pub fn query_line(
         block,
     } = query;
     let found = stratify::query(plan, lent, level, m, a, column, row, block);
-    println!(out; "{query} {}", Answer(found.map(|index| Found(index))))
+    println!(out; "{query} {}", Answer(found.map(Found)))
 }
 
 // Every cell of a shape, column after column, each in two blocks.
@@ -67,32 +64,15 @@ fn cells(out: &impl Print, m: u32, a: u32) -> io::Result<()>
     for cell in 0..1u32 << m {
         let column = cell / rows;
         let row = cell % rows;
-        query_line(
-            out,
-            plan,
-            lent,
-            32,
-            Query {
-                m,
-                a,
-                column,
-                row,
-                block: 0,
-            },
-        )?;
-        query_line(
-            out,
-            plan,
-            lent,
-            32,
-            Query {
-                m,
-                a,
-                column,
-                row,
-                block: 5,
-            },
-        )?;
+        let query = Query {
+            m,
+            a,
+            column,
+            row,
+            block: 0,
+        };
+        query_line(out, plan, lent, 32, query)?;
+        query_line(out, plan, lent, 32, Query { block: 5, ..query })?;
     }
     Ok(())
 }
@@ -119,19 +99,12 @@ fn largest(out: &impl Print) -> io::Result<()> {
     let plan = plan_of(&OTHER);
     let lent = unflipped(OTHER_SHIFT);
     for a in 0..=32 {
-        query_line(
-            out,
-            plan,
-            lent,
-            32,
-            Query {
-                m: 32,
-                a,
-                column: 0,
-                row: 0,
-                block: 0,
-            },
-        )?;
+        let query = Query {
+            m: 32,
+            a,
+            ..Query::default()
+        };
+        query_line(out, plan, lent, 32, query)?;
     }
     let query = Query {
         m: 16,
@@ -146,6 +119,8 @@ fn largest(out: &impl Print) -> io::Result<()> {
 // Queries at levels, each as m, a, column, row and block.
 type Cases<'a> = &'a [(u32, [u32; 5])];
 
+// Of the standard pair: a level out of range, a size above the level, a above the size, a column and a row outside the shape, and the last block
+// passed and kept.
 const STANDARD_CASES: Cases = &[
     (33, [2, 1, 0, 0, 0]),
     (0, [2, 1, 0, 0, 0]),
@@ -159,7 +134,7 @@ const STANDARD_CASES: Cases = &[
 
 const MOST: u32 = u32::MAX;
 
-// With every later refusal due too: 2, 4, 5, 6, 7, 3.
+// Of the zero pair, with every later refusal due too: 2, 4, 5, 6, 7, 3.
 const ZERO_CASES: Cases = &[
     (33, [MOST, MOST, MOST, MOST, MOST]),
     (2, [MOST, MOST, MOST, MOST, MOST]),

@@ -1,7 +1,8 @@
 // Sheets: how long they are, and some of their lines.
-use crate::files::{changed, cut, put_long};
+use crate::files::{changed, cut, first_piece, put_long};
 use sheet::Cursor;
 use std::io;
+use text::Pieces;
 
 // The columns of a line, which a line feed ends.
 const COLUMNS: usize = 27;
@@ -42,8 +43,7 @@ fn sheet_line(out: &impl Print, visits: u32, file: &[u8]) -> io::Result<()> {
     let mut space = [0u8; 65536];
     let (bytes, last) = walk(file, &mut space);
     let mut begin = [0u8; 4096];
-    let n = Cursor::open(file).piece(file, &mut begin);
-    let second = columns(&begin[..n], 2);
+    let second = columns(first_piece(Cursor::open(file), file, &mut begin), 2);
     let last = columns(&space, last / LINE_BYTES);
     println!(out;
         "{visits} {} {bytes} \"{second}\" \"{last}\"",
@@ -69,11 +69,12 @@ fn most_line(out: &impl Print) -> io::Result<()> {
 // Lines of two pages, which a piece holds whole: the heading, the last visit of page 1, its number, and the first two lines behind the heading
 // of page 2.
 fn two_pages(out: &impl Print) -> io::Result<()> {
-    let file = one_record(49);
+    let records = one_record(49);
+    let file = cut(&records, 64);
     let mut space = [0u8; 4096];
-    let n = Cursor::open(cut(&file, 64)).piece(cut(&file, 64), &mut space);
+    let text = first_piece(Cursor::open(file), file, &mut space);
     for line in [1, 49, 50, 52, 53] {
-        println!(out; "{line} \"{}\"", columns(&space[..n], line))?;
+        println!(out; "{line} \"{}\"", columns(text, line))?;
     }
     Ok(())
 }
@@ -81,9 +82,7 @@ fn two_pages(out: &impl Print) -> io::Result<()> {
 // A record that names itself.
 fn refused(out: &impl Print) -> io::Result<()> {
     let file = changed([(32, 1), (32, 1)]);
-    let mut space = [0u8; 4096];
-    let n = Cursor::open(&file).piece(&file, &mut space);
-    out.write_all(&space[..n])
+    out.write_all(first_piece(Cursor::open(&file), &file, &mut [0; 4096]))
 }
 
 pub fn sheets(out: &impl Print) -> io::Result<()> {

@@ -5,29 +5,29 @@ use stage::Position;
 use std::fmt;
 use unit::Singles;
 
-// Two numbers that belong together.
+// The two coordinates of a point, of its singles or of a position.
 #[derive(Clone, Copy)]
-pub struct Pair<T> {
+pub struct Coordinates<T> {
     pub x: T,
     pub y: T,
 }
 
-impl From<Point> for Pair<u32> {
-    fn from(at: Point) -> Pair<u32> {
-        Pair { x: at.x, y: at.y }
+impl From<Point> for Coordinates<u32> {
+    fn from(at: Point) -> Coordinates<u32> {
+        Coordinates { x: at.x, y: at.y }
     }
 }
 
-impl From<Position> for Pair<i32> {
-    fn from(at: Position) -> Pair<i32> {
-        Pair { x: at.x, y: at.y }
+impl From<Position> for Coordinates<i32> {
+    fn from(at: Position) -> Coordinates<i32> {
+        Coordinates { x: at.x, y: at.y }
     }
 }
 
 // Singles are printed by their bits.
-impl From<Singles> for Pair<u32> {
-    fn from(at: Singles) -> Pair<u32> {
-        Pair {
+impl From<Singles> for Coordinates<u32> {
+    fn from(at: Singles) -> Coordinates<u32> {
+        Coordinates {
             x: single_bits(at.x),
             y: single_bits(at.y),
         }
@@ -39,13 +39,27 @@ pub fn single_bits(x: f32) -> u32 {
     if x.is_nan() { 0 } else { x.to_bits() }
 }
 
-impl<T: fmt::Display> fmt::Display for Pair<T> {
+impl<T: fmt::Display> fmt::Display for Coordinates<T> {
     fn fmt<W: fmt::Write>(&self, f: &mut fmt::Formatter<W>) -> fmt::Result {
         write!(f, "{} {}", self.x, self.y)
     }
 }
 
-// What a call answers: its value, or the number of its refusal, with m, a and j for 3.
+// A refusal by its number, with m, a and j for 3.
+#[derive(Clone, Copy)]
+pub struct Refused(pub Refusal);
+
+impl fmt::Display for Refused {
+    fn fmt<W: fmt::Write>(&self, f: &mut fmt::Formatter<W>) -> fmt::Result {
+        write!(f, "refused {}", self.0.number())?;
+        if let Refusal::NotNet { m, a, j } = self.0 {
+            write!(f, " {m} {a} {j}")?;
+        }
+        Ok(())
+    }
+}
+
+// What a call answers: its value, or its refusal.
 #[derive(Clone, Copy)]
 pub struct Answer<T>(pub Result<T, Refusal>);
 
@@ -53,8 +67,7 @@ impl<T: fmt::Display> fmt::Display for Answer<T> {
     fn fmt<W: fmt::Write>(&self, f: &mut fmt::Formatter<W>) -> fmt::Result {
         match &self.0 {
             Ok(value) => write!(f, "{value}"),
-            Err(Refusal::NotNet { m, a, j }) => write!(f, "refused 3 {m} {a} {j}"),
-            Err(why) => write!(f, "refused {}", why.number()),
+            Err(why) => write!(f, "{}", Refused(*why)),
         }
     }
 }

@@ -1,12 +1,12 @@
 // Walks in words and in singles.
 use crate::pairs::{FIRST_SHIFT, OTHER, OTHER_SHIFT, plan_of, unflipped};
-use crate::shown::{Answer, Pair};
+use crate::shown::{Answer, Coordinates, Refused};
 use plan::{Plan, Visit, Walk};
 use refusal::Refusal;
 use std::io;
 
 // So many steps, each of which gives a visit or the end.
-fn step_lines<P: Into<Pair<u32>> + Drop, F: FnMut() -> Result<Option<Visit<P>>, Refusal>>(
+fn step_lines<P: Into<Coordinates<u32>> + Drop, F: FnMut() -> Result<Option<Visit<P>>, Refusal>>(
     out: &impl Print,
     count: u32,
     mut step: F,
@@ -16,11 +16,11 @@ fn step_lines<P: Into<Pair<u32>> + Drop, F: FnMut() -> Result<Option<Visit<P>>, 
     for _ in 0..count {
         match step() {
             Ok(Some(visit)) => {
-                let at: Pair<u32> = visit.at.into();
+                let at: Coordinates<u32> = visit.at.into();
                 println!(out; "{} {at}", visit.index)?
             }
             Ok(None) => println!(out; "ended")?,
-            Err(why) => println!(out; "{}", Answer::<u32>(Err(why)))?,
+            Err(why) => println!(out; "{}", Refused(why))?,
         }
     }
     Ok(())
