@@ -1,3 +1,4 @@
+-- `plan_of`: the words of a pair are never refused.
 use Rattle.known_points.proofs.Loads.{pair_loads}
 use Rattle.known_points.proofs.pairs.plan_of.Goals as goal
 
