@@ -40,9 +40,10 @@ fn words_of_lead(lead: Lead) -> (u32, u32)
 pub fn cursor_of(words: CursorWords) -> Cursor
     ensures { result ≡ cursor_of words }
 {
-    let [kind, number, walk @ ..] = words;
+    let mut walk = [0; FILE_WALK_WORDS];
+    walk.copy_from_slice(&words[WORDS_BEFORE_WALK..]);
     Cursor {
-        lead: lead_of(kind, number),
+        lead: lead_of(words[0], words[1]),
         walk: walk_of(walk),
     }
 }

@@ -42,10 +42,11 @@ fn words_of_place(place: Place) -> (u32, u32)
 pub fn sheet_cursor_of(words: SheetCursorWords) -> Cursor
     ensures { result ≡ sheet_cursor_of words }
 {
-    let [kind, number, page, walk @ ..] = words;
+    let mut walk = [0; FILE_WALK_WORDS];
+    walk.copy_from_slice(&words[WORDS_BEFORE_WALK..]);
     Cursor {
-        place: place_of(kind, number),
-        page,
+        place: place_of(words[0], words[1]),
+        page: words[2],
         walk: walk_of(walk),
     }
 }

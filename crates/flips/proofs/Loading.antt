@@ -68,3 +68,6 @@ module _ {A : Type 0} (x y : List ℕ) (after : Outcome A) where
 
     pub accepts_bytes : get_or x 31 0 < 128 → get_or y 31 0 < 128 → tested ≡ after
     accepts_bytes h l = accepts (bit_clear x h) (bit_clear y l)
+
+-- all that loading needs of them
+pub ruleset judged = (refuses_x, refuses_y, refuses_byte_x, refuses_byte_y, accepts_bytes)

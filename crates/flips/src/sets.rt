@@ -43,7 +43,7 @@ impl Flips {
     }
 
     // The flips that the bytes of two axes hold.
-    #[tactic(auto, using(crate::proofs::Loading::refuses_x, crate::proofs::Loading::refuses_y, crate::proofs::Loading::refuses_byte_x, crate::proofs::Loading::refuses_byte_y, crate::proofs::Loading::accepts_bytes))]
+    #[tactic(auto, using(crate::proofs::Loading::judged))]
     pub fn load(x: &[u8], y: &[u8]) -> Result<Flips, Refusal>
         ensures { of_result (λ f. f) result ≡ flips_load_outcome (flips_of x.now y.now) }
     {

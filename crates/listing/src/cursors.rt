@@ -1,7 +1,7 @@
 // A cursor in a listing: what is still to come, and the next piece of it.
 ghost use Rattle.std.specs.Prelude.{◌≡◌, ◌≤◌, length};
-ghost use Rattle.text.specs.Put.{put};
 ghost use Rattle.std.proofs.Common.{rules};
+ghost use Rattle.text.specs.Put.{put};
 ghost use Rattle.listing.specs.Listing.{listing, longest_line};
 ghost use Rattle.listing.specs.Cursor.{lead_text, to_come};
 

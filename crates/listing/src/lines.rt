@@ -1,4 +1,5 @@
-// The lines of visits, as many as have room.
+// The lines of visits, as many as have room. The buffer and a byte of it go from call to call as text has them: a struct of both would be taken apart
+// for every call.
 ghost use Rattle.std.specs.Prelude.{◌≡◌, ◌+◌, ◌≤◌, length};
 ghost use Rattle.text.specs.Put.{put};
 ghost use Rattle.listing.specs.Listing.{line, longest_line};

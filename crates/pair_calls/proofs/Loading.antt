@@ -1,8 +1,8 @@
 -- A call that loads a pair first: where the words are refused so is the call, and else it comes to what is made of the matrices. Assumes nothing.
+use Rattle.std.specs.Prelude.{Result, Ok, Err}
 use mathlib.Core.Path.{◌≡◌, sym, ap, ◌∙◌}
 use mathlib.Core.List.{List, [], ◌∷◌}
 use Prim.Native.Nat.{ℕ}
-use Rattle.std.specs.Prelude.{Result, Ok, Err}
 use Rattle.refusal.specs.Outcome.{Outcome, accepted, first, then}
 use Rattle.refusal.specs.Refusal.{of_refusal, of_result}
 use Rattle.refusal.specs.declared.Refusal.{Refusal}

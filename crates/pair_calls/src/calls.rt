@@ -30,11 +30,7 @@ pub fn point(words: &[u32], lent: LentScramble, index: Index) -> Result<Point, R
 }
 
 // The same with the point as two singles.
-pub fn point_singles(
-    words: &[u32],
-    lent: LentScramble,
-    index: Index,
-) -> Result<Singles, Refusal>
+pub fn point_singles(words: &[u32], lent: LentScramble, index: Index) -> Result<Singles, Refusal>
     ensures { of_result (λ s. s) result ≡ pair_singles_outcome words.now (scramble_lent lent.entry) index }
 {
     let plan = Plan::load(words)?;

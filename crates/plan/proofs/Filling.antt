@@ -1,10 +1,10 @@
 -- What a fill answers and leaves. Assumes nothing.
+use Rattle.std.specs.Prelude.{Result, Ok, Err}
 use mathlib.Core.Path.{◌≡◌, sym, ap, ◌∙◌}
 use mathlib.Core.Bool.{true, false, not}
 use mathlib.Core.Logic.{◌≢◌}
 use mathlib.Core.List.{List, [], ◌∷◌, map}
 use Prim.Native.Nat.{ℕ, ◌^◌, ◌<◌}
-use Rattle.std.specs.Prelude.{Result, Ok, Err}
 use borrow.Author.Tests.{eq-eqb, ne_eqb}
 use lib.ListN.{length}
 use Rattle.ranges.specs.Range.{range}
@@ -19,13 +19,13 @@ use Rattle.refusal.specs.Refusal.{of_refusal, of_result}
 use Rattle.refusal.specs.declared.Refusal.{Refusal}
 use Rattle.refusal.proofs.Results.{stops, passes}
 use Rattle.refusal.proofs.First.{first-none, first-refuses, first_passes, first-append, granted-accepted, granted-refused}
+use Rattle.word.specs.Index.{goes_past}
 use Rattle.products.specs.Products.{product_added, product_masked}
 use Rattle.flips.specs.declared.sets.Flips.{Flips}
 use Rattle.flips.specs.Flips.{NoneSet}
 use Rattle.flips.specs.Scramble.{scramble_word, mask}
 use Rattle.flips.specs.Load.{flips_tests}
 use Rattle.flips.proofs.Scrambled.{by_mask, shift-left}
-use Rattle.word.specs.Index.{goes_past}
 use Rattle.plan.specs.Range.{past_last}
 use Rattle.plan.specs.Pair.{scramble_load_outcome}
 use Rattle.plan.specs.declared.points.Scramble.{Scramble}

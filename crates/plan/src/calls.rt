@@ -10,7 +10,7 @@ use word::Index;
 
 impl Plan {
     // The point of an index.
-    #[tactic(auto, using(refusal::proofs::Results::stops, refusal::proofs::Results::passes, refusal::proofs::Results::gives))]
+    #[tactic(auto, using(refusal::proofs::Results::tested))]
     pub fn point(self, lent: LentScramble, index: Index) -> Result<Point, Refusal>
         ensures { of_result of_point result ≡ point_outcome self (scramble_lent lent.entry) index }
     {
@@ -18,7 +18,7 @@ impl Plan {
     }
 
     // The same of the standard matrices, by the fast way.
-    #[tactic(auto, using(refusal::proofs::Results::stops, refusal::proofs::Results::passes, refusal::proofs::Results::gives))]
+    #[tactic(auto, using(refusal::proofs::Results::tested))]
     pub fn standard_point(lent: LentScramble, index: Index) -> Result<Point, Refusal>
         ensures { of_result of_point result ≡ point_outcome standard_pair (scramble_lent lent.entry) index }
     {

@@ -38,7 +38,7 @@ pub struct LentScramble<'a> {
 
 impl<'a> LentScramble<'a> {
     // The scramble by value, or why its flips are refused.
-    #[tactic(auto, using(refusal::proofs::Results::stops, refusal::proofs::Results::passes, refusal::proofs::Results::gives))]
+    #[tactic(auto, using(refusal::proofs::Results::tested))]
     pub fn load(self) -> Result<Scramble, Refusal>
         ensures { of_result (λ s. s) result ≡ scramble_load_outcome (scramble_lent self.entry) }
     {

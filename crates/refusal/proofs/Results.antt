@@ -1,8 +1,8 @@
--- A call that makes tests first and then gives one value, by what the code's result of it is: an error is the refusal of whatever comes after the same
--- tests, and a value means that these tests are passed. What calls `?` of such a call need no more. Assumes nothing.
+-- A call that makes tests first and then gives one value, by what the code's result of it is: an error is the refusal of whatever comes after
+-- the same tests, and a value means that these tests are passed. A `?` of such a call needs no more. Assumes nothing.
+use Rattle.std.specs.Prelude.{Result, Ok, Err}
 use mathlib.Core.Path.{◌≡◌, sym, ap, ◌∙◌}
 use mathlib.Core.List.{List}
-use Rattle.std.specs.Prelude.{Result, Ok, Err}
 use Rattle.refusal.specs.Outcome.{Outcome, accepted, Test, first}
 use Rattle.refusal.specs.Refusal.{of_refusal, of_result}
 use Rattle.refusal.specs.declared.Refusal.{Refusal}
@@ -18,3 +18,6 @@ module _ {A B : Type 0} (f : A → B) (ts : List Test) (b : B) (r : Result A Ref
 
     pub gives : f a ≡ b
     gives = sym (accepted-same (all_pass (accepted b) ts (sym is ∙ ap (of_result f) was)).1)
+
+-- all three, for calls of such a call
+pub ruleset tested = (stops, passes, gives)

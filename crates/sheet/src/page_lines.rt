@@ -1,4 +1,5 @@
-// The lines of a page, one at a time, in a buffer that has room for the longest.
+// The lines of a page, one at a time, in a buffer that has room for the longest. The buffer and a byte of it go from call to call as text has
+// them: a struct of both would be taken apart for every call.
 ghost use Rattle.std.specs.Prelude.{◌≡◌, ◌+◌, ◌≤◌, length};
 ghost use Rattle.text.specs.Put.{put};
 ghost use Rattle.listing.specs.Listing.{longest_line};
@@ -8,6 +9,7 @@ ghost use Rattle.sheet.specs.Lines.{step_line};
 use visits::FileVisit;
 
 // The words rec, vis, x and y above the columns of a page.
+#[tactic(auto, using(text::proofs::Puts::from_if_room), unfolding(crate::specs::Sheet::in_columns, text::specs::Columns::right))]
 pub(crate) fn put_heading(out: &mut [u8], at: usize) -> usize
     requires { at + longest_line ≤ length out.old }
     ensures end { result ≡ at + length heading }
@@ -17,6 +19,7 @@ pub(crate) fn put_heading(out: &mut [u8], at: usize) -> usize
 }
 
 // The number of a page, right-aligned in all columns.
+#[tactic(auto, using(text::proofs::Puts::from_if_room), unfolding(crate::specs::Sheet::across))]
 pub(crate) fn put_page_number(page: u32, out: &mut [u8], at: usize) -> usize
     requires { at + longest_line ≤ length out.old }
     ensures end { result ≡ at + length (page_line page) }
@@ -38,6 +41,7 @@ fn put_visit(visit: FileVisit, out: &mut [u8], at: usize) -> usize
 }
 
 // The line of the visit that a step gave, or a blank one where it gave none.
+#[tactic(auto, using(text::proofs::Puts::from_if_room), unfolding(crate::specs::Sheet::across, text::specs::Columns::right))]
 pub(crate) fn put_step(given: Option<FileVisit>, out: &mut [u8], at: usize) -> usize
     requires { at + longest_line ≤ length out.old }
     ensures end { result ≡ at + length (step_line given) }

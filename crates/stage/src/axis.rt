@@ -57,7 +57,7 @@ pub(crate) fn span(extent: u32, word: u32) -> u32
 fn offset(word: u32, extent: u32) -> u32
     ensures { result ≡ offset extent word }
 {
-    (word as u64 * extent as u64 / SCALE) as u32
+    (u64::from(word) * u64::from(extent) / SCALE) as u32
 }
 
 // The position of a coordinate. The division comes before the signed sum: dividing a negative sum would round toward zero, that is up.

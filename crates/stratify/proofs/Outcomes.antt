@@ -20,7 +20,7 @@ use Rattle.plan.specs.declared.points.Scramble.{Scramble}
 use Rattle.plan.specs.Pair.{generators, scrambling, loaded, Level}
 use Rattle.plan.proofs.Level.{level_known, level_of}
 use Rattle.stratify.specs.Answers.{of_verdict, check_outcome, of_location, not_a_cell, query_tests, query_outcome, Cell}
-use Rattle.stratify.proofs.Tests.{cell_within, past_flips, flips_fine}
+use Rattle.stratify.proofs.Tests.{cell_within, past_flips}
 
 -- ---- past the tests
 
@@ -36,13 +36,10 @@ query_outcome_is P s level m a k c r known fine cell =
     ∙ first_passes after 7 [] (lt-leb (2 ^ (32 - m)) k cell.block)
     ∙ first-none after
 
--- the flips and the cell that a query's tests let through
+-- the cell that a query's tests let through
 module _ (f : Flips) (level m a k c r : ℕ) (e : ◌≡◌ {A = Outcome Unit} (first (query_tests f level m a k c r) (accepted tt)) (accepted tt)) where
   all : AllPass (query_tests f level m a k c r)
   all = (all_pass (accepted tt) (query_tests f level m a k c r) e).0
-
-  pub flips_of-tests : flips_outcome f ≡ accepted tt
-  flips_of-tests = flips_fine f all.1.0 all.1.1.0
 
   pub cell_passed : (not_a_cell 2 m a c r).holds ≡ false
   cell_passed = all.1.1.1.1.1.0

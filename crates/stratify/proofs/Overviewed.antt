@@ -71,12 +71,12 @@ module _ (P : Plan) (s : Scramble) (level m a k : ℕ) (cs rs old : List ℕ) wh
   abbrev outcome : Outcome (List ℕ)
   outcome = overview_outcome P s level m a k cs rs old
 
-  pub rows-differ : length cs ≢ length rs → outcome ≡ refused 8 []
+  rows-differ : length cs ≢ length rs → outcome ≡ refused 8 []
   rows-differ ne =
       first-refuses (cells_outcome P s level m a k cs rs) 8 []
       (ap (λ (b : Bool). not b || not (eqb (length cs) (length old))) (ne_eqb (length cs) (length rs) ne))
 
-  pub answers-differ : length cs ≡ length rs → length cs ≢ length old → outcome ≡ refused 8 []
+  answers-differ : length cs ≡ length rs → length cs ≢ length old → outcome ≡ refused 8 []
   answers-differ e ne =
       first-refuses (cells_outcome P s level m a k cs rs) 8 []
       (ap₂ (λ (b d : Bool). not b || not d) (eq-eqb (length cs) (length rs) e) (ne_eqb (length cs) (length old) ne))

@@ -1,13 +1,13 @@
 -- The query's bounds by shifts are the definitions' tests, and which of these decides. Assumes nothing.
 use mathlib.Core.Path.{◌≡◌, sym, ap, ap₂, ◌∙◌}
 use mathlib.Core.Logic.{◌⊎◌, inl, inr}
-use mathlib.Core.Bool.{Bool, true, false, not, ◌||◌}
+use mathlib.Core.Bool.{true, false, not, ◌||◌}
 use mathlib.Core.List.{List, [], ◌∷◌}
 use Prim.Native.Nat.{ℕ, ◌-◌, ◌/◌, ◌^◌, ◌≤◌, ◌<◌}
 use native.Mathlib.Nat.{div-eq_of_lt}
 use native.Mathlib.Omega.{arith}
 use borrow.Author.Tests.{le-leb, lt-leb, le-ltb, lt-ltb, eq-eqb, ne_eqb}
-use lib.Dec.{leb, eqb}
+use lib.Dec.{eqb}
 use lib.ListN.{drop}
 use Rattle.ranges.proofs.Order.{lt_or_ge}
 use Rattle.digits.proofs.Digit.{lt_of-div}
@@ -27,9 +27,6 @@ past_limit n w ne = go (lt_or_ge n (2 ^ w))
     go (inr h) = h
 
 module _ (m a c r : ℕ) where
-  pub column_past : 2 ^ a ≤ c → (not_a_cell 2 m a c r).holds ≡ true
-  column_past h = ap (λ (b : Bool). b || leb (2 ^ (m - a)) r) (le-leb (2 ^ a) c h)
-
   row_past : c < 2 ^ a → 2 ^ (m - a) ≤ r → (not_a_cell 2 m a c r).holds ≡ true
   row_past l h = ap₂ ◌||◌ (lt-leb (2 ^ a) c l) (le-leb (2 ^ (m - a)) r h)
 

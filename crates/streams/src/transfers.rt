@@ -10,7 +10,8 @@ use std::{io, thread};
 // number that no run uses up: where a call would block, it is made again for as long as the system itself would wait.
 pub(crate) const MOST_CALLS: u64 = u64::MAX;
 
-// What a call came to, in four cases, so that it is no `Result`: bytes were moved; or none, which is the end of an input; or the call is to be made again; or it failed, and why.
+// What a call came to, in four cases, so that it is no `Result`: bytes were moved; or none, which is the end of an input; or the call is to be made
+// again; or it failed, and why.
 #[derive(Clone, Copy)]
 pub enum Transfer {
     Moved(usize),

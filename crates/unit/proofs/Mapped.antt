@@ -64,7 +64,8 @@ walk-mapped (accepted t) w = refl
 walk-mapped (refused n vs) w = refl
 
 -- the two promises of a return: the answer is the plan's as singles, and the walk the plan's
-pub singles_step : (P : Plan) (s : Scramble) (w : Walk) {answer : Outcome (Answer Visit)} {given : Outcome (Answer (VisitCode Singles))} {after : Walk}
+pub singles_step : (P : Plan) (s : Scramble) (w : Walk) {answer : Outcome (Answer Visit)} {given : Outcome (Answer (VisitCode Singles))}
+    {after : Walk}
     → given ≡ singles_answer answer
     → answer ≡ through (λ (t : Stepped Visit). t.answer) (step_outcome P s w)
     → after ≡ part_left (step_outcome P s w) (λ (t : Stepped Visit). t.walk) w

@@ -7,6 +7,7 @@ ghost use Rattle.cursor_words.specs.Cursors.{cursor_of};
 
 use cursor_words::{CursorWords, cursor_of, words_of_cursor};
 use listing::Cursor;
+use text::Pieces;
 
 // The start of a file's listing.
 #[unsafe(no_mangle)]

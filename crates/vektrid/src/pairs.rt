@@ -32,11 +32,13 @@ pub extern "C" fn vektrid_check(
     ensures j { j.new ≡ value_left (check_outcome words.now level) 2 j.old }
 {
     let judged = stratify::check(words, level);
-    if let Err(Refusal::NotNet {
-        m: bad_m,
-        a: bad_a,
-        j: least,
-    }) = judged
+    if let Err(
+        Refusal::NotNet {
+            m: bad_m,
+            a: bad_a,
+            j: least,
+        },
+    ) = judged
     {
         *m = bad_m;
         *a = bad_a;

@@ -7,6 +7,7 @@ ghost use Rattle.cursor_words.specs.SheetCursors.{sheet_cursor_of};
 
 use cursor_words::{SheetCursorWords, sheet_cursor_of, words_of_sheet_cursor};
 use sheet::Cursor;
+use text::Pieces;
 
 // The start of a file's sheet.
 #[unsafe(no_mangle)]

@@ -1,8 +1,8 @@
 -- `fill`: refused where the words are, and else the fill of their matrices.
-use mathlib.Core.Path.{◌≡◌, sym, ap, ◌∙◌}
-use borrow.Author.Rules.{rules}
 use Rattle.std.specs.Prelude.{Err}
+use mathlib.Core.Path.{◌≡◌, sym, ap, ◌∙◌}
 use mathlib.Core.List.{List}
+use borrow.Author.Rules.{rules}
 use Rattle.refusal.specs.Refusal.{of_judgement}
 use Rattle.refusal.proofs.First.{granted-accepted, granted-refused}
 use Rattle.word.specs.Index.{index_count}

@@ -1,9 +1,9 @@
 -- `overview`: refused where the words are, and else the overview with their matrices.
-use mathlib.Core.Path.{◌≡◌, sym, ap, ◌∙◌}
-use borrow.Author.Rules.{rules}
 use Rattle.std.specs.Prelude.{Err}
+use mathlib.Core.Path.{◌≡◌, sym, ap, ◌∙◌}
 use mathlib.Core.List.{List}
 use Prim.Native.Nat.{ℕ}
+use borrow.Author.Rules.{rules}
 use Rattle.refusal.specs.Outcome.{Outcome, accepted, then, part_left}
 use Rattle.refusal.specs.Refusal.{of_judgement}
 use Rattle.refusal.proofs.First.{then-refused}

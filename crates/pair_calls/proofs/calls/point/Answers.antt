@@ -1,7 +1,7 @@
 -- `point`: refused where the words are, and else the point of their matrices.
+use Rattle.std.specs.Prelude.{Err}
 use mathlib.Core.Path.{◌≡◌, sym, ap, ◌∙◌}
 use borrow.Author.Rules.{rules}
-use Rattle.std.specs.Prelude.{Err}
 use Rattle.refusal.specs.Refusal.{of_result}
 use Rattle.plan.specs.Pair.{scramble_lent, of_point}
 use Rattle.plan.specs.Calls.{point_outcome}

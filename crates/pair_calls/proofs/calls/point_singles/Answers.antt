@@ -1,7 +1,7 @@
 -- `point_singles`: the same with the point as singles.
+use Rattle.std.specs.Prelude.{Err}
 use mathlib.Core.Path.{◌≡◌, sym, ap, ◌∙◌}
 use borrow.Author.Rules.{rules}
-use Rattle.std.specs.Prelude.{Err}
 use Rattle.refusal.specs.Refusal.{of_result}
 use Rattle.plan.specs.Pair.{scramble_lent}
 use Rattle.unit.specs.Singles.{singles_outcome}

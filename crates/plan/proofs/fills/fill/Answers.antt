@@ -1,4 +1,5 @@
 -- `fill`: refused as the tests are, in their order, and else filled.
+use Rattle.std.specs.Prelude.{Err}
 use mathlib.Core.Path.{◌≡◌, sym, ap, ◌∙◌}
 use mathlib.Core.Bool.{false}
 use mathlib.Core.List.{List, map}
@@ -7,13 +8,12 @@ use native.Mathlib.Omega.{arith}
 use borrow.Author.Rules.{rules}
 use borrow.Author.Tests.{ltb-false}
 use lib.ListN.{length}
-use Rattle.std.specs.Prelude.{Err}
 use Rattle.ranges.specs.Range.{range}
 use Rattle.refusal.specs.Outcome.{Outcome, refused}
 use Rattle.refusal.specs.Refusal.{of_judgement}
 use Rattle.refusal.proofs.Results.{gives}
-use Rattle.flips.specs.Load.{flips_tests}
 use Rattle.word.specs.Index.{index_count, goes_past}
+use Rattle.flips.specs.Load.{flips_tests}
 use Rattle.plan.specs.declared.points.Scramble.{Scramble}
 use Rattle.plan.specs.Pair.{scramble_lent, sequence}
 use Rattle.plan.specs.Fill.{Buffers, filled, fill_outcome}

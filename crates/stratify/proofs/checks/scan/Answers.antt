@@ -7,20 +7,11 @@ use Rattle.refusal.specs.Refusal.{of_judgement}
 use Rattle.stratify.specs.Answers.{of_verdict}
 use Rattle.stratify.proofs.checks.scan.Goals as goal
 
-pub loop-m-init : goal.loop-m-init
-loop-m-init c = let s = c.requires.2 in (s.positive, s.wide, s.none_before)
-
-pub scan_size-requires : goal.scan_size-requires
-scan_size-requires c = let l = c.loop-m in (c.requires.0, l.invariant.0, omega (arith, c.requires.1), l.invariant.1, l.invariant.2)
-
 pub returns-in_err-scan_size : goal.returns-in_err-scan_size
 returns-in_err-scan_size c =
     let why = c.in_err-scan_size.field-0.0 in
     let back : c.from_residual.result ≡ Err why = search rules in
     ap of_judgement back ∙ c.in_err-scan_size.ensures c.args.level (omega arith) c.requires.1
-
-pub loop-m-preserved : goal.loop-m-preserved
-loop-m-preserved c = (omega arith, omega arith, c.in_ok-scan_size.ensures)
 
 pub returns : goal.returns
 returns c =

@@ -20,9 +20,6 @@ made c =
     let a = c.args in
     ap₂ (λ (u v : ℕ). u * 2 ^ (a.shape.m - a.shape.a) + v) c.plain_strip-c.ensures c.plain_strip-r.ensures
 
-pub plain_strip-c-requires : goal.plain_strip-c-requires
-plain_strip-c-requires c = let wide = c.args.shape.wide in let fits = c.args.shape.fits in (omega arith, c.requires.0)
-
 pub returns : goal.returns
 unfolding serial
 returns c =

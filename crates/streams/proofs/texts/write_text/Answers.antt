@@ -9,7 +9,8 @@ pub returns-in_err-taken-clause-bytes : goal.returns-in_err-taken-clause-bytes
 returns-in_err-taken-clause-bytes g c =
     let back : c.from_residual.result ≡ Err c.in_err-taken.field-0.0 = search rules in
     let cut = got_cut c.piece-len.ensures.piece _ _ _ _ c.pieces.invariant.1 c.in_err-taken.ensures.bytes in
-    subst (Puts (g.W.Write.contents c.args.output.now) (g.W.Write.contents c.write_piece.new.output) (g.P.Pieces.to_come c.args.file.now c.args.pieces)) (sym back) cut
+    subst (Puts (g.W.Write.contents c.args.output.now) (g.W.Write.contents c.write_piece.new.output)
+    (g.P.Pieces.to_come c.args.file.now c.args.pieces)) (sym back) cut
 
 pub pieces-preserved : goal.pieces-preserved
 pieces-preserved g c =

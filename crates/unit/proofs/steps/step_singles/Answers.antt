@@ -1,7 +1,7 @@
 -- `step_singles`: the plan's step, its visit as singles.
+use Rattle.std.specs.Prelude.{Option, Some, None, Err, MatchOption, IsSomeAnd}
 use mathlib.Core.Path.{◌≡◌, refl, sym, ap, ◌∙◌}
 use borrow.Author.Rules.{rules}
-use Rattle.std.specs.Prelude.{Option, Some, None, Err, MatchOption, IsSomeAnd}
 use Rattle.ranges.specs.Walk.{visited}
 use Rattle.refusal.specs.Outcome.{accepted}
 use Rattle.refusal.specs.Refusal.{of_result}

@@ -26,5 +26,5 @@ returns c =
     let x = c.columns.ensures ∙ columns-whole (take 32 w) (length-take-le 32 w (omega arith)) in
     let y = c.columns-2.ensures ∙ ap columns_held all ∙ columns-whole (drop 32 w) rest in
     let made : ◌≡◌ {A = Plan} (record { x = c.columns.result; y = c.columns-2.result }) (record { x = take 32 w; y = drop 32 w }) =
-      λ i. record { x = x i; y = y i } in
+    λ i. record { x = x i; y = y i } in
     load_gives w e made

@@ -1,9 +1,9 @@
 -- `Walk::step`: refused where the flips are, and else the tests of the step of ranges, in its order.
+use Rattle.std.specs.Prelude.{Err}
 use mathlib.Core.Path.{◌≡◌, sym, ap, ◌∙◌}
 use native.Mathlib.Omega.{arith}
 use borrow.Author.Rules.{rules}
 use borrow.Author.Tests.{eq-eqb, ne_eqb, le-ltb}
-use Rattle.std.specs.Prelude.{Err}
 use Rattle.ranges.specs.Walk.{Stepped, step}
 use Rattle.net.specs.Run.{Visit, visit}
 use Rattle.refusal.specs.Outcome.{accepted}
