@@ -1,20 +1,47 @@
 // Points, queries and refusals under flips.
-use crate::lines::{Section, lines};
-use crate::{pairs, print};
-use plan::Plan;
+use crate::pairs::{NO_SHIFT, OTHER, flips, plan_of};
+use crate::points::point_lines;
+use crate::queries::{Query, query_line};
+use crate::shown::{Answer, Coordinates};
+use plan::{LentScramble, Plan};
+use std::io;
+
+// The query of each cell of the shape (4, 2) in block 5.
+fn cells(out: &impl Print) -> io::Result<()> {
+    let plan = plan_of(&OTHER);
+    for cell in 0..16 {
+        let query = Query {
+            m: 4,
+            a: 2,
+            column: cell / 4,
+            row: cell % 4,
+            block: 5,
+        };
+        query_line(out, plan, flips(), 32, query)?;
+    }
+    Ok(())
+}
 
 // How many bytes the flips of each axis have, the last of them, and the point of index 1 of the standard pair under them.
-fn judged_line(out: &impl Print, x: &[u8], last_x: u8, y: &[u8], last_y: u8) {
-    print::number(out, (x.len() % 4294967296) as u32);
-    print::number(out, last_x as u32);
-    print::number(out, (y.len() % 4294967296) as u32);
-    print::number(out, last_y as u32);
-    let plain = pairs::no_shift();
-    print::pointed_line(out, Plan::standard_point(plain.shift, x, y, 1));
+fn judged_line(out: &impl Print, x: &[u8], y: &[u8]) -> io::Result<()> {
+    let lent = LentScramble {
+        shift: NO_SHIFT,
+        flips_x: x,
+        flips_y: y,
+    };
+    let point = Plan::standard_point(lent, 1).map(Coordinates::from);
+    let last_x = x.last().copied().unwrap_or(0);
+    let last_y = y.last().copied().unwrap_or(0);
+    println!(out;
+        "{} {last_x} {} {last_y} {}",
+        x.len(),
+        y.len(),
+        Answer(point)
+    )
 }
 
 // Too few bytes, too many, 17 where 18 is due too, bit 255 of either axis, and all bits of the last bytes but that one.
-fn judged(out: &impl Print) {
+fn judged(out: &impl Print) -> io::Result<()> {
     let short = [0u8; 31];
     let none = [0u8; 32];
     let long = [0u8; 33];
@@ -22,17 +49,18 @@ fn judged(out: &impl Print) {
     set[31] = 128;
     let mut most = [0u8; 32];
     most[31] = 127;
-    judged_line(out, &short, 0, &none, 0);
-    judged_line(out, &none, 0, &long, 0);
-    judged_line(out, &set, 128, &short, 0);
-    judged_line(out, &set, 128, &none, 0);
-    judged_line(out, &none, 0, &set, 128);
-    judged_line(out, &most, 127, &most, 127);
+    judged_line(out, &short, &none)?;
+    judged_line(out, &none, &long)?;
+    judged_line(out, &set, &short)?;
+    judged_line(out, &set, &none)?;
+    judged_line(out, &none, &set)?;
+    judged_line(out, &most, &most)
 }
 
-pub fn flipped(out: &impl Print) {
-    print::text(out, b"flips\n");
-    lines(out, Section::Flipped, 256);
-    lines(out, Section::FlippedCells, 16);
-    judged(out);
+pub fn flipped(out: &impl Print) -> io::Result<()> {
+    println!(out; "flips")?;
+    let plan = plan_of(&OTHER);
+    point_lines(out, 256, |index| plan.point(flips(), index))?;
+    cells(out)?;
+    judged(out)
 }

@@ -3,79 +3,41 @@
 // numbers by their bits, positions in regions, answers to region files, listings, sheets, and points, queries and refusals under flips.
 #![tactic(auto)]
 
+mod checks;
 mod files;
+mod fills;
 mod flipped;
-mod lines;
 mod pairs;
+mod points;
 mod positions;
-mod print;
+mod queries;
 mod sheets;
-mod single;
+mod shown;
 mod units;
+mod walks;
 
-use lines::{Section, lines};
+use std::io;
 
+// A write that fails shows as a difference in the comparison.
 fn main(rt: HostRuntime) {
-    let out = &rt;
-    points(out);
-    checks(out);
-    queries(out);
-    single::fills(out);
-    single::walks(out);
-    unit_numbers(out);
-    visits(out);
-    positions::positions(out);
-    positions::fields(out);
-    units::steps(out);
-    files::files(out);
-    files::long(out);
-    files::listings(out);
-    sheets::sheets(out);
-    flipped::flipped(out);
+    let _ = sections(&rt);
 }
 
-fn points(out: &impl Print) {
-    print::text(out, b"points standard 0 0\n");
-    lines(out, Section::Standard, 1024);
-    print::text(out, b"points standard 305419896 2596069104\n");
-    lines(out, Section::StandardShifted, 1024);
-    print::text(out, b"points other 0 0\n");
-    lines(out, Section::Other, 256);
-    print::text(out, b"points other 2779096485 1515870810\n");
-    lines(out, Section::OtherShifted, 256);
-}
-
-fn checks(out: &impl Print) {
-    single::checks(out);
-    lines(out, Section::GapX, 32);
-    lines(out, Section::GapY, 32);
-    lines(out, Section::SumX, 32);
-    single::checks_of_length(out);
-}
-
-fn queries(out: &impl Print) {
-    print::text(out, b"query\n");
-    lines(out, Section::Cells { m: 0 }, 2);
-    lines(out, Section::Cells { m: 1 }, 8);
-    lines(out, Section::Cells { m: 2 }, 24);
-    lines(out, Section::Cells { m: 3 }, 64);
-    lines(out, Section::Cells { m: 4 }, 160);
-    lines(out, Section::Largest, 33);
-    single::queries(out);
-    single::queries_in_order(out);
-}
-
-fn unit_numbers(out: &impl Print) {
-    print::text(out, b"units\n");
-    lines(out, Section::Units, 97);
-}
-
-fn visits(out: &impl Print) {
-    print::text(out, b"visits -500 0 1000 800 0 0\n");
-    lines(out, Section::FirstVisits, 1024);
-    print::text(
-        out,
-        b"visits -1000000 1000000 1000000 999983 305419896 2596069104\n",
-    );
-    lines(out, Section::SecondVisits, 1024);
+// Each section to standard output, which `out` stands for.
+fn sections(out: &impl Print) -> io::Result<()> {
+    points::points(out)?;
+    checks::checks(out)?;
+    queries::queries(out)?;
+    fills::fills(out)?;
+    walks::walks(out)?;
+    units::units(out)?;
+    positions::visits(out)?;
+    positions::positions(out)?;
+    positions::fields(out)?;
+    walks::steps(out)?;
+    files::files(out)?;
+    files::long(out)?;
+    files::listings(out)?;
+    sheets::sheets(out)?;
+    flipped::flipped(out)
 }

@@ -1,134 +1,96 @@
 // Sheets: how long they are, and some of their lines.
-use crate::{files, print};
+use crate::files::{changed, cut, first_piece, put_long};
 use sheet::Cursor;
+use std::io;
+use text::Pieces;
 
-// The length of a sheet, and how much of the buffer its last piece fills.
-#[derive(Clone, Copy)]
-struct Walked {
-    bytes: u64,
-    len: usize,
-}
+// The columns of a line, which a line feed ends.
+const COLUMNS: usize = 27;
 
-// Walks through a sheet to its end. The buffer then holds the last piece. The count of calls makes the loop end: no sheet takes so many pieces.
-fn walk(file: &[u8], space: &mut [u8]) -> Walked {
+const LINE_BYTES: usize = COLUMNS + 1;
+
+// The bytes of a page.
+const PAGE_BYTES: usize = 50 * LINE_BYTES;
+
+// Walks through a sheet to its end. Gives the number of its bytes, and how many of them the last piece has, which the buffer then holds. The
+// count of calls makes the loop end: no sheet takes so many pieces.
+fn walk(file: &[u8], space: &mut [u8]) -> (usize, usize) {
     let mut cursor = Cursor::open(file);
-    let mut bytes: u64 = 0;
-    let mut len: usize = 0;
-    for _ in 0..100000u32 {
-        let piece = cursor.piece(file, space);
-        if piece.len == 0 {
-            return Walked { bytes, len };
+    let mut bytes = 0usize;
+    let mut last = 0;
+    for _ in 0..100000 {
+        let n = cursor.piece(file, space);
+        if n == 0 {
+            break;
         }
-        len = piece.len;
-        bytes = std::num::wrapping_add_u64(bytes, len as u64);
-        cursor = piece.next;
+        bytes = bytes.saturating_add(n);
+        last = n;
     }
-    Walked { bytes, len }
+    (bytes, last)
 }
 
-// The 27 columns of a line that begins with a byte of the text, in quotes.
-fn quoted(out: &impl Print, text: &[u8], from: usize) {
-    print::text(out, b"\"");
-    if from <= text.len() {
-        if text.len() - from >= 27 {
-            print::text(out, &text[from..from + 27]);
-        }
+// The columns of a line of a text, the first line being 1. A text without that line gives none.
+fn columns(text: &[u8], line: usize) -> &str {
+    let from = line.saturating_sub(1).saturating_mul(LINE_BYTES);
+    match text.get(from..from.saturating_add(COLUMNS)) {
+        Some(columns) => str::from_utf8(columns).unwrap_or_default(),
+        None => "",
     }
-    print::text(out, b"\"");
-}
-
-// The columns of line n, the first line being 1, and the byte after them.
-fn quoted_line(out: &impl Print, text: &[u8], n: u32, last: &[u8]) {
-    if n > 0 {
-        quoted(out, text, (n - 1) as usize * 28);
-    }
-    print::text(out, last);
-}
-
-// The columns of the last line that ends before a byte of the text.
-fn quoted_last(out: &impl Print, text: &[u8], end: usize) {
-    if end >= 28 {
-        quoted(out, text, end - 28);
-    }
-    print::text(out, b"\n");
 }
 
 // Visits, pages, bytes, the second line and the last.
-fn sheet_line(out: &impl Print, visits: u32, file: &[u8]) {
+fn sheet_line(out: &impl Print, visits: u32, file: &[u8]) -> io::Result<()> {
     let mut space = [0u8; 65536];
-    let walked = walk(file, &mut space);
-    let bytes = walked.bytes;
-    print::number(out, visits);
-    print::wide_number(out, bytes / 1400, b' ');
-    print::wide_number(out, bytes, b' ');
+    let (bytes, last) = walk(file, &mut space);
     let mut begin = [0u8; 4096];
-    let cursor = Cursor::open(file);
-    let piece = cursor.piece(file, &mut begin);
-    let n = piece.len;
-    quoted_line(out, &begin[..n], 2, b" ");
-    quoted_last(out, &space, walked.len);
+    let second = columns(first_piece(Cursor::open(file), file, &mut begin), 2);
+    let last = columns(&space, last / LINE_BYTES);
+    println!(out;
+        "{visits} {} {bytes} \"{second}\" \"{last}\"",
+        bytes / PAGE_BYTES
+    )
 }
 
-// Record 1 of the base file alone, with this count of visits. The base file's other record has no room in the file.
-fn put_one(file: &mut [u8], count: u32) {
-    files::put_base(file);
-    files::put_word(file, 32, 0);
-    files::put_word(file, 60, count);
-}
-
-fn one_line(out: &impl Print, count: u32) {
-    let mut file = [0u8; 64];
-    put_one(&mut file, count);
-    sheet_line(out, count, &file);
+// Record 1 of the base file with this count of visits, which is alone once the file is cut to two records.
+fn one_record(count: u32) -> [u8; 96] {
+    changed([(32, 0), (60, count)])
 }
 
 // The file with most visits. The first of them lies at the lowest position to the right and the highest downwards.
-fn most_line(out: &impl Print) {
+fn most_line(out: &impl Print) -> io::Result<()> {
     let mut file = [0u8; 65536];
-    files::put_long(&mut file, 4293967296, 1000000, 1000000, 4294967295, 4096);
-    sheet_line(out, 8384512, &file);
-}
-
-fn numbered_line(out: &impl Print, text: &[u8], n: u32) {
-    print::number(out, n);
-    quoted_line(out, text, n, b"\n");
+    put_long(
+        &mut file,
+        [0, 4293967296, 1000000, 1, 1000000, 0, 4294967295, 4096],
+    );
+    sheet_line(out, 8384512, &file)
 }
 
 // Lines of two pages, which a piece holds whole: the heading, the last visit of page 1, its number, and the first two lines behind the heading
 // of page 2.
-fn two_pages(out: &impl Print) {
-    let mut file = [0u8; 64];
-    put_one(&mut file, 49);
+fn two_pages(out: &impl Print) -> io::Result<()> {
+    let records = one_record(49);
+    let file = cut(&records, 64);
     let mut space = [0u8; 4096];
-    let cursor = Cursor::open(&file);
-    let piece = cursor.piece(&file, &mut space);
-    let n = piece.len;
-    numbered_line(out, &space[..n], 1);
-    numbered_line(out, &space[..n], 49);
-    numbered_line(out, &space[..n], 50);
-    numbered_line(out, &space[..n], 52);
-    numbered_line(out, &space[..n], 53);
+    let text = first_piece(Cursor::open(file), file, &mut space);
+    for line in [1, 49, 50, 52, 53] {
+        println!(out; "{line} \"{}\"", columns(text, line))?;
+    }
+    Ok(())
 }
 
 // A record that names itself.
-fn refused(out: &impl Print) {
-    let mut file = [0u8; 96];
-    files::put_base(&mut file);
-    files::put_word(&mut file, 32, 1);
-    let mut space = [0u8; 4096];
-    let cursor = Cursor::open(&file);
-    let piece = cursor.piece(&file, &mut space);
-    let n = piece.len;
-    print::text(out, &space[..n]);
+fn refused(out: &impl Print) -> io::Result<()> {
+    let file = changed([(32, 1), (32, 1)]);
+    out.write_all(first_piece(Cursor::open(&file), &file, &mut [0; 4096]))
 }
 
-pub fn sheets(out: &impl Print) {
-    print::text(out, b"sheet\n");
-    one_line(out, 0);
-    one_line(out, 1);
-    one_line(out, 48);
-    one_line(out, 49);
-    most_line(out);
-    two_pages(out);
-    refused(out);
+pub fn sheets(out: &impl Print) -> io::Result<()> {
+    println!(out; "sheet")?;
+    for count in [0, 1, 48, 49] {
+        sheet_line(out, count, cut(&one_record(count), 64))?;
+    }
+    most_line(out)?;
+    two_pages(out)?;
+    refused(out)
 }

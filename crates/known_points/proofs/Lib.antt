@@ -1,0 +1,2 @@
+-- What the program's own proofs share.
+mod Loads

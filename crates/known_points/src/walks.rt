@@ -1,0 +1,68 @@
+// Walks in words and in singles.
+use crate::pairs::{FIRST_SHIFT, OTHER, OTHER_SHIFT, plan_of, unflipped};
+use crate::shown::{Answer, Coordinates, Refused};
+use plan::{Plan, Visit, Walk};
+use refusal::Refusal;
+use std::io;
+
+// So many steps, each of which gives a visit or the end.
+fn step_lines<P: Into<Coordinates<u32>> + Drop, F: FnMut() -> Result<Option<Visit<P>>, Refusal>>(
+    out: &impl Print,
+    count: u32,
+    mut step: F,
+) -> io::Result<()>
+    requires { F.IsAlwaysCallable step }
+{
+    for _ in 0..count {
+        match step() {
+            Ok(Some(visit)) => {
+                let at: Coordinates<u32> = visit.at.into();
+                println!(out; "{} {at}", visit.index)?
+            }
+            Ok(None) => println!(out; "ended")?,
+            Err(why) => println!(out; "{}", Refused(why))?,
+        }
+    }
+    Ok(())
+}
+
+fn walk_steps(out: &impl Print, mut walk: Walk, count: u32) -> io::Result<()> {
+    let plan = plan_of(&OTHER);
+    step_lines(out, count, || walk.step(plan, unflipped(OTHER_SHIFT)))
+}
+
+// Opens a walk and prints the answer, and goes so many steps where it is open.
+fn walk_lines(out: &impl Print, start: u32, visits: u64, steps: u32) -> io::Result<()> {
+    let opened = Walk::open(start, visits);
+    println!(out; "{start} {visits} {}", Answer(opened.map(|_| "open")))?;
+    match opened {
+        Ok(walk) => walk_steps(out, walk, steps),
+        Err(_) => Ok(()),
+    }
+}
+
+// To the last index and a step after the end; past the last index; all; and one made by hand, which ends at the last index.
+pub fn walks(out: &impl Print) -> io::Result<()> {
+    println!(out; "walk")?;
+    walk_lines(out, 4294967294, 2, 3)?;
+    walk_lines(out, 4294967295, 2, 0)?;
+    walk_lines(out, 0, 4294967296, 2)?;
+    let by_hand = Walk {
+        next: 4294967294,
+        left: 9,
+    };
+    println!(out; "{} {} hand", by_hand.next, by_hand.left)?;
+    walk_steps(out, by_hand, 3)
+}
+
+// The last two visits of all in singles, and a step after the end.
+pub fn steps(out: &impl Print) -> io::Result<()> {
+    println!(out; "steps")?;
+    let Ok(mut walk) = Walk::open(4294967294, 2) else {
+        return Ok(());
+    };
+    let plan = Plan::standard();
+    step_lines(out, 3, || {
+        unit::step_singles(&mut walk, plan, unflipped(FIRST_SHIFT))
+    })
+}
