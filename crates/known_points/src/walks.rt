@@ -5,16 +5,18 @@ use plan::{Plan, Visit, Walk};
 use refusal::Refusal;
 use std::io;
 
-// So many steps, each of which gives a visit or the end.
-fn step_lines<P: Into<Coordinates<u32>> + Drop, F: FnMut() -> Result<Option<Visit<P>>, Refusal>>(
-    out: &impl Print,
-    count: u32,
-    mut step: F,
-) -> io::Result<()>
+// So many steps of a walk, each of which gives a visit or the end.
+fn step_lines<
+    P: Into<Coordinates<u32>> + Drop,
+    F: Fn(Walk) -> (Result<Option<Visit<P>>, Refusal>, Walk),
+>(out: &impl Print, start: Walk, count: u32, step: F) -> io::Result<()>
     requires { F.IsAlwaysCallable step }
 {
+    let mut walk = start;
     for _ in 0..count {
-        match step() {
+        let (given, after) = step(walk);
+        walk = after;
+        match given {
             Ok(Some(visit)) => {
                 let at: Coordinates<u32> = visit.at.into();
                 println!(out; "{} {at}", visit.index)?
@@ -26,9 +28,11 @@ fn step_lines<P: Into<Coordinates<u32>> + Drop, F: FnMut() -> Result<Option<Visi
     Ok(())
 }
 
-fn walk_steps(out: &impl Print, mut walk: Walk, count: u32) -> io::Result<()> {
+fn walk_steps(out: &impl Print, start: Walk, count: u32) -> io::Result<()> {
     let plan = plan_of(&OTHER);
-    step_lines(out, count, || walk.step(plan, unflipped(OTHER_SHIFT)))
+    step_lines(out, start, count, |walk| {
+        walk.step(plan, unflipped(OTHER_SHIFT))
+    })
 }
 
 // Opens a walk and prints the answer, and goes so many steps where it is open.
@@ -58,11 +62,11 @@ pub fn walks(out: &impl Print) -> io::Result<()> {
 // The last two visits of all in singles, and a step after the end.
 pub fn steps(out: &impl Print) -> io::Result<()> {
     println!(out; "steps")?;
-    let Ok(mut walk) = Walk::open(4294967294, 2) else {
+    let Ok(start) = Walk::open(4294967294, 2) else {
         return Ok(());
     };
     let plan = Plan::standard();
-    step_lines(out, 3, || {
-        unit::step_singles(&mut walk, plan, unflipped(FIRST_SHIFT))
+    step_lines(out, start, 3, |walk| {
+        unit::step_singles(walk, plan, unflipped(FIRST_SHIFT))
     })
 }
