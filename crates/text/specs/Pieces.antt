@@ -1,4 +1,4 @@
--- A text that is handed out piece by piece. A cursor goes from call to call by value.
+-- A text that is handed out piece by piece. A cursor goes on with each call.
 use Rattle.std.specs.Prelude.{◌≡◌, List, [], ◌∷◌, ◌++◌, ℕ, ◌+◌, ◌≤◌, length, take}
 
 -- n counts elements at the start of a list. The second part follows from the first; it lets a caller lend `&buffer[..n]` without a proof.

@@ -10,5 +10,5 @@ mod pieces;
 
 pub use columns::right_number;
 pub use fields::{bytes, has_room, number};
-pub use numerals::{Decimal, LONGEST_NUMBER, LONGEST_SIGNED};
+pub use numerals::{LONGEST_NUMBER, LONGEST_SIGNED};
 pub use pieces::Pieces;

@@ -11,7 +11,7 @@ pub const LONGEST_NUMBER: usize = 11;
 // A sign, ten digits and the byte after them.
 pub const LONGEST_SIGNED: usize = 12;
 
-// A number that is written in decimal, as its text says.
+// A number that is written in decimal, as its text says. Other crates cannot name it: its `put` asks for room, and no function that they call does.
 pub trait Decimal: Copy {
     ghost in_decimal: { Self → List ℕ };
 
