@@ -1,6 +1,6 @@
 -- The tests of flips, and what loading the flips of two axes from bytes comes to.
 use Rattle.std.specs.Prelude.{not, ◌||◌, List, [], ◌∷◌, ℕ, eqb, length, replicate}
-use Rattle.refusal.specs.Outcome.{Outcome, accepted, Test, first}
+use Rattle.refusal.specs.Outcome.{Outcome, accepted, Test, first, granted}
 use Rattle.flips.specs.Flips.{flip_bit}
 use Rattle.flips.specs.declared.sets.Flips.{Flips}
 
@@ -30,6 +30,10 @@ flips_outcome f = first (flips_tests f) (accepted tt)
 -- no bit is set
 abbrev pub no_flips : Flips
 no_flips = flips_of (replicate flip_bytes 0) (replicate flip_bytes 0)
+
+-- the flips that are loaded; of bytes that are refused no bit is set
+abbrev pub flips_loaded : Flips → Flips
+flips_loaded f = granted (flips_outcome f) f no_flips
 
 -- and loading hands them out
 abbrev pub flips_load_outcome : Flips → Outcome Flips

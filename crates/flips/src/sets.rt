@@ -1,8 +1,8 @@
 // The flips of two axes by value, taken from bytes.
-ghost use Rattle.std.specs.Prelude.{◌≡◌, ◌↔◌, true};
-ghost use Rattle.refusal.specs.Refusal.{of_result};
+ghost use Rattle.std.specs.Prelude.{◌≡◌, ◌↔◌, true, length, IfOk};
+ghost use Rattle.refusal.specs.Refusal.{of_judgement, of_result};
 ghost use Rattle.flips.specs.Flips.{NoneSet};
-ghost use Rattle.flips.specs.Load.{flips_of, no_flips, flips_load_outcome};
+ghost use Rattle.flips.specs.Load.{flip_bytes, flips_of, no_flips, flips_outcome, flips_loaded, flips_load_outcome};
 
 use refusal::Refusal;
 
@@ -42,10 +42,11 @@ impl Flips {
         crate::none_set(self.x) && crate::none_set(self.y)
     }
 
-    // The flips that the bytes of two axes hold. They are judged before they are copied: `TryFrom` moves them more than once, which a point pays.
+    // Whether the bytes of two axes are flips, or why they are refused.
     #[tactic(auto, using(crate::proofs::Loading::judged))]
-    pub fn load(x: &[u8], y: &[u8]) -> Result<Flips, Refusal>
-        ensures { of_result (λ f. f) result ≡ flips_load_outcome (flips_of x.now y.now) }
+    pub fn judge(x: &[u8], y: &[u8]) -> Result<(), Refusal>
+        ensures answer { of_judgement result ≡ flips_outcome (flips_of x.now y.now) }
+        ensures bytes { IfOk result (λ u. (length x.now ≡ flip_bytes) × (length y.now ≡ flip_bytes)) }
     {
         if x.len() != FLIP_BYTES || y.len() != FLIP_BYTES {
             return Err(Refusal::FlipBytes);
@@ -53,9 +54,27 @@ impl Flips {
         if x[LAST_BYTE] >= UNUSED_SET || y[LAST_BYTE] >= UNUSED_SET {
             return Err(Refusal::FlipBit);
         }
+        Ok(())
+    }
+
+    // The flips that the bytes of two axes hold; of bytes that are refused, no bit is set. Callers judge first and take them from here by value: a
+    // `Result` with 64 bytes in it would be copied more than once, and every point would pay for that.
+    pub fn loaded(x: &[u8], y: &[u8]) -> Flips
+        ensures { result ≡ flips_loaded (flips_of x.now y.now) }
+    {
         let mut flips = Flips::none();
-        flips.x.copy_from_slice(x);
-        flips.y.copy_from_slice(y);
-        Ok(flips)
+        if let Ok(()) = Flips::judge(x, y) {
+            flips.x.copy_from_slice(x);
+            flips.y.copy_from_slice(y);
+        }
+        flips
+    }
+
+    // The same, or why the bytes are refused.
+    pub fn load(x: &[u8], y: &[u8]) -> Result<Flips, Refusal>
+        ensures { of_result (λ f. f) result ≡ flips_load_outcome (flips_of x.now y.now) }
+    {
+        Flips::judge(x, y)?;
+        Ok(Flips::loaded(x, y))
     }
 }

@@ -16,28 +16,23 @@ mod shown;
 mod units;
 mod walks;
 
-use std::io;
-
-// A write that fails shows as a difference in the comparison.
+// Each section to standard output, which `out` stands for. A write that fails shows as a difference in the comparison, and what comes after it is
+// written all the same.
 fn main(rt: HostRuntime) {
-    let _ = sections(&rt);
-}
-
-// Each section to standard output, which `out` stands for.
-fn sections(out: &impl Print) -> io::Result<()> {
-    points::points(out)?;
-    checks::checks(out)?;
-    queries::queries(out)?;
-    fills::fills(out)?;
-    walks::walks(out)?;
-    units::units(out)?;
-    positions::visits(out)?;
-    positions::positions(out)?;
-    positions::fields(out)?;
-    walks::steps(out)?;
-    files::files(out)?;
-    files::long(out)?;
-    files::listings(out)?;
-    sheets::sheets(out)?;
-    flipped::flipped(out)
+    let out = &rt;
+    points::points(out);
+    checks::checks(out);
+    queries::queries(out);
+    fills::fills(out);
+    walks::walks(out);
+    units::units(out);
+    positions::visits(out);
+    positions::positions(out);
+    positions::fields(out);
+    walks::steps(out);
+    files::files(out);
+    files::long(out);
+    files::listings(out);
+    sheets::sheets(out);
+    flipped::flipped(out);
 }

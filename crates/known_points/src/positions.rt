@@ -4,7 +4,6 @@ use crate::shown::{Answer, Coordinates};
 use plan::{Plan, Scramble, Shift};
 use refusal::Refusal;
 use stage::{Field, Position, Region};
-use std::io;
 
 // The position or its refusal, for printing.
 fn answer(position: Result<Position, Refusal>) -> Answer<Coordinates<i32>> {
@@ -24,12 +23,12 @@ fn region_of((left, top, width, height): Sides) -> Region {
 }
 
 // The position and the singles of each of the first visits.
-fn visit_lines(out: &impl Print, sides: Sides, shift: Shift) -> io::Result<()> {
+fn visit_lines(out: &impl Print, sides: Sides, shift: Shift) {
     let (left, top, width, height) = sides;
-    println!(out;
+    let _ = println!(out;
         "visits {left} {top} {width} {height} {} {}",
         shift.x, shift.y
-    )?;
+    );
     let region = region_of(sides);
     let none = Field {
         width: 0,
@@ -40,17 +39,16 @@ fn visit_lines(out: &impl Print, sides: Sides, shift: Shift) -> io::Result<()> {
         let at = plan.scrambled_point(Scramble::of_shift(shift), index);
         let position = answer(region.position(none, at.x, at.y));
         let singles = unit::singles_at(plan, unflipped(shift), index);
-        println!(out;
+        let _ = println!(out;
             "{index} {position} {}",
             Answer(singles.map(Coordinates::from))
-        )?;
+        );
     }
-    Ok(())
 }
 
-pub fn visits(out: &impl Print) -> io::Result<()> {
-    visit_lines(out, (-500, 0, 1000, 800), NO_SHIFT)?;
-    visit_lines(out, (-1000000, 1000000, 1000000, 999983), FIRST_SHIFT)
+pub fn visits(out: &impl Print) {
+    visit_lines(out, (-500, 0, 1000, 800), NO_SHIFT);
+    visit_lines(out, (-1000000, 1000000, 1000000, 999983), FIRST_SHIFT);
 }
 
 // The floor, and the ends: a region and the words of a point.
@@ -80,25 +78,24 @@ const REFUSED: [Sides; 12] = [
     (0, 0, 1, 4294967295),
 ];
 
-fn position_line(out: &impl Print, sides: Sides, [x, y]: [u32; 2]) -> io::Result<()> {
+fn position_line(out: &impl Print, sides: Sides, [x, y]: [u32; 2]) {
     let (left, top, width, height) = sides;
     let one = Field {
         width: 1,
         height: 1,
     };
     let position = answer(region_of(sides).position(one, x, y));
-    println!(out; "{left} {top} {width} {height} {x} {y} {position}")
+    let _ = println!(out; "{left} {top} {width} {height} {x} {y} {position}");
 }
 
-pub fn positions(out: &impl Print) -> io::Result<()> {
-    println!(out; "positions")?;
+pub fn positions(out: &impl Print) {
+    let _ = println!(out; "positions");
     for (sides, point) in POSITIONS {
-        position_line(out, sides, point)?;
+        position_line(out, sides, point);
     }
     for sides in REFUSED {
-        position_line(out, sides, [0, 0])?;
+        position_line(out, sides, [0, 0]);
     }
-    Ok(())
 }
 
 // C-12's example, a field on each axis, 0 and 1, and a field as large as the region: each with its region and the words of a point.
@@ -133,21 +130,20 @@ const REFUSED_FIELDS: [(Sides, [u32; 2]); 9] = [
     ((0, 0, 1000001, 1), [1000001, 1]),
 ];
 
-fn field_line(out: &impl Print, sides: Sides, field: [u32; 2], [x, y]: [u32; 2]) -> io::Result<()> {
+fn field_line(out: &impl Print, sides: Sides, field: [u32; 2], [x, y]: [u32; 2]) {
     let region = region_of(sides);
     let [width, height] = field;
     let position = answer(region.position(Field { width, height }, x, y));
     let (left, top, across, down) = sides;
-    println!(out; "{left} {top} {across} {down} {width} {height} {x} {y} {position}")
+    let _ = println!(out; "{left} {top} {across} {down} {width} {height} {x} {y} {position}");
 }
 
-pub fn fields(out: &impl Print) -> io::Result<()> {
-    println!(out; "fields")?;
+pub fn fields(out: &impl Print) {
+    let _ = println!(out; "fields");
     for (sides, field, point) in FIELDS {
-        field_line(out, sides, field, point)?;
+        field_line(out, sides, field, point);
     }
     for (sides, field) in REFUSED_FIELDS {
-        field_line(out, sides, field, [0, 0])?;
+        field_line(out, sides, field, [0, 0]);
     }
-    Ok(())
 }

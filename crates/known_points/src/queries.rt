@@ -4,7 +4,7 @@ ghost use Rattle.std.specs.Prelude.{◌≤◌};
 use crate::pairs::{NO_SHIFT, OTHER, OTHER_SHIFT, TWICE, ZERO, plan_of, unflipped};
 use crate::shown::Answer;
 use plan::{LentScramble, Plan};
-use std::{fmt, io};
+use std::fmt;
 
 // A cell of the shape (m, a), and a block.
 #[derive(Clone, Copy, Default)]
@@ -36,13 +36,7 @@ impl fmt::Display for Found {
     }
 }
 
-pub fn query_line(
-    out: &impl Print,
-    plan: Plan,
-    lent: LentScramble,
-    level: u32,
-    query: Query,
-) -> io::Result<()> {
+pub fn query_line(out: &impl Print, plan: Plan, lent: LentScramble, level: u32, query: Query) {
     let Query {
         m,
         a,
@@ -51,11 +45,11 @@ pub fn query_line(
         block,
     } = query;
     let found = stratify::query(plan, lent, level, m, a, column, row, block);
-    println!(out; "{query} {}", Answer(found.map(Found)))
+    let _ = println!(out; "{query} {}", Answer(found.map(Found)));
 }
 
 // Every cell of a shape, column after column, each in two blocks.
-fn cells(out: &impl Print, m: u32, a: u32) -> io::Result<()>
+fn cells(out: &impl Print, m: u32, a: u32)
     requires { (a ≤ m) × (m ≤ 4) }
 {
     let plan = plan_of(&OTHER);
@@ -71,31 +65,28 @@ fn cells(out: &impl Print, m: u32, a: u32) -> io::Result<()>
             row,
             block: 0,
         };
-        query_line(out, plan, lent, 32, query)?;
-        query_line(out, plan, lent, 32, Query { block: 5, ..query })?;
+        query_line(out, plan, lent, 32, query);
+        query_line(out, plan, lent, 32, Query { block: 5, ..query });
     }
-    Ok(())
 }
 
 // Every shape of size m.
-fn shapes(out: &impl Print, m: u32) -> io::Result<()>
+fn shapes(out: &impl Print, m: u32)
     requires { m ≤ 4 }
 {
     for a in 0..=m {
-        cells(out, m, a)?;
+        cells(out, m, a);
     }
-    Ok(())
 }
 
-fn small(out: &impl Print) -> io::Result<()> {
+fn small(out: &impl Print) {
     for m in 0..=4 {
-        shapes(out, m)?;
+        shapes(out, m);
     }
-    Ok(())
 }
 
 // The first cell of each shape of the largest size.
-fn largest(out: &impl Print) -> io::Result<()> {
+fn largest(out: &impl Print) {
     let plan = plan_of(&OTHER);
     let lent = unflipped(OTHER_SHIFT);
     for a in 0..=32 {
@@ -104,7 +95,7 @@ fn largest(out: &impl Print) -> io::Result<()> {
             a,
             ..Query::default()
         };
-        query_line(out, plan, lent, 32, query)?;
+        query_line(out, plan, lent, 32, query);
     }
     let query = Query {
         m: 16,
@@ -113,7 +104,7 @@ fn largest(out: &impl Print) -> io::Result<()> {
         row: 17,
         block: 65535,
     };
-    query_line(out, plan, lent, 32, query)
+    query_line(out, plan, lent, 32, query);
 }
 
 // Queries at levels, each as m, a, column, row and block.
@@ -144,7 +135,7 @@ const ZERO_CASES: Cases = &[
     (2, [2, 1, 1, 1, 0]),
 ];
 
-fn cases(out: &impl Print, plan: Plan, cases: Cases) -> io::Result<()> {
+fn cases(out: &impl Print, plan: Plan, cases: Cases) {
     for (level, [m, a, column, row, block]) in cases {
         let query = Query {
             m: *m,
@@ -153,16 +144,15 @@ fn cases(out: &impl Print, plan: Plan, cases: Cases) -> io::Result<()> {
             row: *row,
             block: *block,
         };
-        query_line(out, plan, unflipped(NO_SHIFT), *level, query)?;
+        query_line(out, plan, unflipped(NO_SHIFT), *level, query);
     }
-    Ok(())
 }
 
-pub fn queries(out: &impl Print) -> io::Result<()> {
-    println!(out; "query")?;
-    small(out)?;
-    largest(out)?;
-    cases(out, plan_of(&TWICE), &[(2, [2, 1, 1, 0, 0])])?;
-    cases(out, Plan::standard(), STANDARD_CASES)?;
-    cases(out, plan_of(&ZERO), ZERO_CASES)
+pub fn queries(out: &impl Print) {
+    let _ = println!(out; "query");
+    small(out);
+    largest(out);
+    cases(out, plan_of(&TWICE), &[(2, [2, 1, 1, 0, 0])]);
+    cases(out, Plan::standard(), STANDARD_CASES);
+    cases(out, plan_of(&ZERO), ZERO_CASES);
 }

@@ -3,13 +3,12 @@ use crate::pairs::{FIRST_SHIFT, OTHER, OTHER_SHIFT, plan_of, unflipped};
 use crate::shown::{Answer, Coordinates, Refused};
 use plan::{Plan, Visit, Walk};
 use refusal::Refusal;
-use std::io;
 
 // So many steps of a walk, each of which gives a visit or the end.
 fn step_lines<
     P: Into<Coordinates<u32>> + Drop,
     F: Fn(Walk) -> (Result<Option<Visit<P>>, Refusal>, Walk),
->(out: &impl Print, start: Walk, count: u32, step: F) -> io::Result<()>
+>(out: &impl Print, start: Walk, count: u32, step: F)
     requires { F.IsAlwaysCallable step }
 {
     let mut walk = start;
@@ -19,54 +18,56 @@ fn step_lines<
         match given {
             Ok(Some(visit)) => {
                 let at: Coordinates<u32> = visit.at.into();
-                println!(out; "{} {at}", visit.index)?
+                let _ = println!(out; "{} {at}", visit.index);
             }
-            Ok(None) => println!(out; "ended")?,
-            Err(why) => println!(out; "{}", Refused(why))?,
+            Ok(None) => {
+                let _ = println!(out; "ended");
+            }
+            Err(why) => {
+                let _ = println!(out; "{}", Refused(why));
+            }
         }
     }
-    Ok(())
 }
 
-fn walk_steps(out: &impl Print, start: Walk, count: u32) -> io::Result<()> {
+fn walk_steps(out: &impl Print, start: Walk, count: u32) {
     let plan = plan_of(&OTHER);
     step_lines(out, start, count, |walk| {
         walk.step(plan, unflipped(OTHER_SHIFT))
-    })
+    });
 }
 
 // Opens a walk and prints the answer, and goes so many steps where it is open.
-fn walk_lines(out: &impl Print, start: u32, visits: u64, steps: u32) -> io::Result<()> {
+fn walk_lines(out: &impl Print, start: u32, visits: u64, steps: u32) {
     let opened = Walk::open(start, visits);
-    println!(out; "{start} {visits} {}", Answer(opened.map(|_| "open")))?;
-    match opened {
-        Ok(walk) => walk_steps(out, walk, steps),
-        Err(_) => Ok(()),
+    let _ = println!(out; "{start} {visits} {}", Answer(opened.map(|_| "open")));
+    if let Ok(walk) = opened {
+        walk_steps(out, walk, steps);
     }
 }
 
 // To the last index and a step after the end; past the last index; all; and one made by hand, which ends at the last index.
-pub fn walks(out: &impl Print) -> io::Result<()> {
-    println!(out; "walk")?;
-    walk_lines(out, 4294967294, 2, 3)?;
-    walk_lines(out, 4294967295, 2, 0)?;
-    walk_lines(out, 0, 4294967296, 2)?;
+pub fn walks(out: &impl Print) {
+    let _ = println!(out; "walk");
+    walk_lines(out, 4294967294, 2, 3);
+    walk_lines(out, 4294967295, 2, 0);
+    walk_lines(out, 0, 4294967296, 2);
     let by_hand = Walk {
         next: 4294967294,
         left: 9,
     };
-    println!(out; "{} {} hand", by_hand.next, by_hand.left)?;
-    walk_steps(out, by_hand, 3)
+    let _ = println!(out; "{} {} hand", by_hand.next, by_hand.left);
+    walk_steps(out, by_hand, 3);
 }
 
 // The last two visits of all in singles, and a step after the end.
-pub fn steps(out: &impl Print) -> io::Result<()> {
-    println!(out; "steps")?;
+pub fn steps(out: &impl Print) {
+    let _ = println!(out; "steps");
     let Ok(start) = Walk::open(4294967294, 2) else {
-        return Ok(());
+        return;
     };
     let plan = Plan::standard();
     step_lines(out, start, 3, |walk| {
         unit::step_singles(walk, plan, unflipped(FIRST_SHIFT))
-    })
+    });
 }

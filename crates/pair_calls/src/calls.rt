@@ -1,4 +1,5 @@
-// Calls with a pair as 64 words. Words that are no pair are refused before all else, and then each call is that of its matrices.
+// Calls with a pair as 64 words. Words that are no pair are refused before all else, and then each call is that of their matrices, which are loaded
+// once the words are judged.
 ghost use Rattle.std.specs.Prelude.{◌≡◌};
 ghost use Rattle.refusal.specs.Outcome.{accepted, part_left, then, through};
 ghost use Rattle.refusal.specs.Refusal.{of_judgement, of_result};
@@ -25,16 +26,16 @@ use word::Index;
 pub fn point(words: &[u32], lent: LentScramble, index: Index) -> Result<Point, Refusal>
     ensures { of_result of_point result ≡ pair_point_outcome words.now (scramble_lent lent.entry) index }
 {
-    let plan = Plan::load(words)?;
-    plan.point(lent, index)
+    Plan::judge(words)?;
+    Plan::loaded(words).point(lent, index)
 }
 
 // The same with the point as two singles.
 pub fn point_singles(words: &[u32], lent: LentScramble, index: Index) -> Result<Singles, Refusal>
     ensures { of_result (λ s. s) result ≡ pair_singles_outcome words.now (scramble_lent lent.entry) index }
 {
-    let plan = Plan::load(words)?;
-    unit::singles_at(plan, lent, index)
+    Plan::judge(words)?;
+    unit::singles_at(Plan::loaded(words), lent, index)
 }
 
 // The points of the indexes from start on, into every word of both buffers.
@@ -49,8 +50,8 @@ pub fn fill(
     ensures xs { xs.new ≡ (pair_filled words.now (scramble_lent lent.entry) start xs.old ys.old).x }
     ensures ys { ys.new ≡ (pair_filled words.now (scramble_lent lent.entry) start xs.old ys.old).y }
 {
-    let plan = Plan::load(words)?;
-    plan::fill(plan, lent, start, xs, ys)
+    Plan::judge(words)?;
+    plan::fill(Plan::loaded(words), lent, start, xs, ys)
 }
 
 // The next visit of a walk, or the end, together with the walk after it. A refused step hands the walk back as it was.
@@ -64,8 +65,8 @@ pub fn step(
     ensures walk { of_walk result.1
         ≡ part_left (pair_step_outcome words.now (scramble_lent lent.entry) walk.next walk.left) (λ t. t.walk) (of_walk walk) }
 {
-    match Plan::load(words) {
-        Ok(plan) => walk.step(plan, lent),
+    match Plan::judge(words) {
+        Ok(()) => walk.step(Plan::loaded(words), lent),
         Err(why) => (Err(why), walk),
     }
 }
@@ -81,8 +82,8 @@ pub fn step_singles(
     ensures walk { of_walk result.1
         ≡ part_left (pair_singles_step_outcome words.now (scramble_lent lent.entry) walk.next walk.left) (λ t. t.walk) (of_walk walk) }
 {
-    match Plan::load(words) {
-        Ok(plan) => unit::step_singles(walk, plan, lent),
+    match Plan::judge(words) {
+        Ok(()) => unit::step_singles(walk, Plan::loaded(words), lent),
         Err(why) => (Err(why), walk),
     }
 }
@@ -101,8 +102,8 @@ pub fn query(
     ensures { of_result (λ i. i) result
         ≡ pair_query_outcome words.now (scramble_lent lent.entry) level m a column row block }
 {
-    let plan = Plan::load(words)?;
-    stratify::query(plan, lent, level, m, a, column, row, block)
+    Plan::judge(words)?;
+    stratify::query(Plan::loaded(words), lent, level, m, a, column, row, block)
 }
 
 // The index of a block in each of many cells of one shape.
@@ -124,6 +125,16 @@ pub fn overview(
         ≡ part_left (pair_overview_outcome words.now (scramble_lent lent.entry) level m a block columns.now rows.now answers.old)
         (λ is. is) answers.old }
 {
-    let plan = Plan::load(words)?;
-    stratify::overview(plan, lent, level, m, a, block, columns, rows, answers)
+    Plan::judge(words)?;
+    stratify::overview(
+        Plan::loaded(words),
+        lent,
+        level,
+        m,
+        a,
+        block,
+        columns,
+        rows,
+        answers,
+    )
 }

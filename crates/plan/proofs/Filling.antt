@@ -15,21 +15,20 @@ use Rattle.net.specs.Sequence.{Sequence}
 use Rattle.net.specs.Scrambling.{coordinate}
 use Rattle.net.proofs.Product.{product_lt}
 use Rattle.refusal.specs.Outcome.{Outcome, accepted, refused, first}
-use Rattle.refusal.specs.Refusal.{of_refusal, of_result}
+use Rattle.refusal.specs.Refusal.{of_refusal, of_judgement}
 use Rattle.refusal.specs.declared.Refusal.{Refusal}
-use Rattle.refusal.proofs.Results.{stops, passes}
 use Rattle.refusal.proofs.First.{first-none, first-refuses, first_passes, first-append, granted-accepted, granted-refused}
 use Rattle.word.specs.Index.{goes_past}
 use Rattle.products.specs.Products.{product_added, product_masked}
 use Rattle.flips.specs.declared.sets.Flips.{Flips}
 use Rattle.flips.specs.Flips.{NoneSet}
 use Rattle.flips.specs.Scramble.{scramble_word, mask}
-use Rattle.flips.specs.Load.{flips_tests}
+use Rattle.flips.specs.Load.{flips_tests, flips_outcome}
 use Rattle.flips.proofs.Scrambled.{by_mask, shift-left}
 use Rattle.plan.specs.Range.{past_last}
-use Rattle.plan.specs.Pair.{scramble_load_outcome}
 use Rattle.plan.specs.declared.points.Scramble.{Scramble}
 use Rattle.plan.specs.Fill.{Buffers, lengths_differ, fill_outcome, filled}
+use Rattle.plan.proofs.Loading.{lent_stops, lent_passes}
 
 module _ (n : ℕ) (f : Flips) (start : ℕ) (xs ys : List ℕ) where
   -- the tests after those of the flips
@@ -53,15 +52,14 @@ module _ (n : ℕ) (f : Flips) (start : ℕ) (xs ys : List ℕ) where
       → filled n f S start xs ys ≡ record { x = map S.x (range start (length xs)); y = map S.y (range start (length ys)) }
   written S e = granted-accepted _ _ (sym e)
 
--- by what loading the scramble has come to
-module _ (n : ℕ) (s : Scramble) (start : ℕ) (xs ys : List ℕ) (r : Result Scramble Refusal)
-    (is : of_result (λ t. t) r ≡ scramble_load_outcome s) where
+-- by what judging the scramble has come to
+module _ (n : ℕ) (s : Scramble) (start : ℕ) (xs ys : List ℕ) (r : Result Unit Refusal) (is : of_judgement r ≡ flips_outcome s.flips) where
   pub fill_stops : (why : Refusal) → r ≡ Err why → of_refusal why ≡ fill_outcome n s.flips start xs ys
-  fill_stops why was = stops (λ t. t) (flips_tests s.flips) s r is why was (later n s.flips start xs ys) ∙ sym (flips-first n s.flips start xs ys)
+  fill_stops why was = lent_stops s r is why was (later n s.flips start xs ys) ∙ sym (flips-first n s.flips start xs ys)
 
-  module _ (t : Scramble) (was : r ≡ Ok t) where
+  module _ (was : r ≡ Ok tt) where
     passed : first (flips_tests s.flips) (later n s.flips start xs ys) ≡ later n s.flips start xs ys
-    passed = passes (λ t. t) (flips_tests s.flips) s r is t was _
+    passed = lent_passes s r is was _
 
     pub refuses_lengths : length xs ≢ length ys → refused 8 [] ≡ fill_outcome n s.flips start xs ys
     refuses_lengths ne =

@@ -7,7 +7,7 @@ use Rattle.refusal.specs.Outcome.{Outcome, accepted, Test, first, granted}
 use Rattle.word.specs.Index.{index_bits}
 use Rattle.word.specs.Matrices.{pair, standard_matrices}
 use Rattle.flips.specs.Scramble.{scramble_word, unscramble_word}
-use Rattle.flips.specs.Load.{flips_of, no_flips, flips_tests}
+use Rattle.flips.specs.Load.{flips_of, no_flips, flips_tests, flips_loaded}
 use Rattle.plan.specs.declared.pair.Plan.{Plan}
 use Rattle.plan.specs.declared.points.Shift.{Shift}
 use Rattle.plan.specs.declared.points.Scramble.{Scramble}
@@ -30,9 +30,12 @@ unscrambling s = record { x = unscramble_word s.flips.x s.shift.x; y = unscrambl
 abbrev pub scramble_of : Shift → List ℕ → List ℕ → Scramble
 scramble_of s flips-x flips-y = record { shift = s; flips = flips_of flips-x flips-y }
 
--- the one that the code is lent, and what loading it comes to
+-- the one that the code is lent; what is loaded of it, without flips where they are refused; and what loading it comes to
 abbrev pub scramble_lent : LentScramble → Scramble
 scramble_lent s = scramble_of s.shift s.flips_x.now s.flips_y.now
+
+abbrev pub scramble_loaded : Scramble → Scramble
+scramble_loaded s = record { shift = s.shift; flips = flips_loaded s.flips }
 
 abbrev pub scramble_load_outcome : Scramble → Outcome Scramble
 scramble_load_outcome s = first (flips_tests s.flips) (accepted s)

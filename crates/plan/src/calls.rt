@@ -10,18 +10,20 @@ use word::Index;
 
 impl Plan {
     // The point of an index.
-    #[tactic(auto, using(refusal::proofs::Results::tested))]
+    #[tactic(auto, using(refusal::proofs::Results::tested, crate::proofs::Loading::scramble_held))]
     pub fn point(self, lent: LentScramble, index: Index) -> Result<Point, Refusal>
         ensures { of_result of_point result ≡ point_outcome self (scramble_lent lent.entry) index }
     {
-        Ok(self.scrambled_point(lent.load()?, index))
+        lent.judge()?;
+        Ok(self.scrambled_point(lent.loaded(), index))
     }
 
     // The same of the standard matrices, by the fast way.
-    #[tactic(auto, using(refusal::proofs::Results::tested))]
+    #[tactic(auto, using(refusal::proofs::Results::tested, crate::proofs::Loading::scramble_held))]
     pub fn standard_point(lent: LentScramble, index: Index) -> Result<Point, Refusal>
         ensures { of_result of_point result ≡ point_outcome standard_pair (scramble_lent lent.entry) index }
     {
-        Ok(Plan::scrambled_standard_point(lent.load()?, index))
+        lent.judge()?;
+        Ok(Plan::scrambled_standard_point(lent.loaded(), index))
     }
 }

@@ -71,7 +71,7 @@ pub fn fill(
     ensures second { ys.new
         ≡ (filled index_count (scramble_lent lent.entry).flips (sequence plan (scramble_lent lent.entry)) start xs.old ys.old).y }
 {
-    let scramble = lent.load()?;
+    lent.judge()?;
     let n = xs.len();
     if n != ys.len() {
         return Err(Refusal::BufferLengths);
@@ -79,6 +79,6 @@ pub fn fill(
     if word::goes_past(start, n as u64) {
         return Err(Refusal::IndexRange);
     }
-    fill_axes(plan, scramble, start, xs, ys);
+    fill_axes(plan, lent.loaded(), start, xs, ys);
     Ok(())
 }

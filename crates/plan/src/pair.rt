@@ -2,8 +2,8 @@
 ghost use Rattle.std.specs.Prelude.{◌≡◌};
 ghost use Rattle.net.specs.Sequence.{point};
 ghost use Rattle.net.specs.Scrambling.{plain};
-ghost use Rattle.refusal.specs.Refusal.{of_result};
-ghost use Rattle.plan.specs.Pair.{generators, only_shift, sequence, standard_pair, unknown_level, plan_load_outcome, of_point};
+ghost use Rattle.refusal.specs.Refusal.{of_judgement, of_result};
+ghost use Rattle.plan.specs.Pair.{generators, only_shift, sequence, standard_pair, unknown_level, load_outcome, loaded, plan_load_outcome, of_point};
 
 use crate::{Point, Scramble, Shift};
 use refusal::Refusal;
@@ -40,17 +40,39 @@ impl Plan {
         }
     }
 
-    // The matrices that 64 words hold, the columns of X first.
-    pub fn load(words: &[u32]) -> Result<Plan, Refusal>
-        ensures { of_result (λ P. P) result ≡ plan_load_outcome words.now }
+    // Whether words are a pair, or why they are refused.
+    pub fn judge(words: &[u32]) -> Result<(), Refusal>
+        ensures { of_judgement result ≡ load_outcome words.now }
     {
         if words.len() != PAIR_WORDS {
             return Err(Refusal::WordCount);
         }
-        Ok(Plan {
-            x: word::columns(&words[..COLUMNS]),
-            y: word::columns(&words[COLUMNS..]),
-        })
+        Ok(())
+    }
+
+    // The matrices that 64 words hold, the columns of X first; of words that are refused every column is 0, which no check passes. Callers judge
+    // first and take them from here by value: a `Result` with 256 bytes in it would be copied more than once, and every point would pay for that.
+    pub fn loaded(words: &[u32]) -> Plan
+        ensures { result ≡ loaded words.now }
+    {
+        if words.len() == PAIR_WORDS {
+            return Plan {
+                x: word::columns(&words[..COLUMNS]),
+                y: word::columns(&words[COLUMNS..]),
+            };
+        }
+        Plan {
+            x: [0; COLUMNS],
+            y: [0; COLUMNS],
+        }
+    }
+
+    // The same, or why the words are refused.
+    pub fn load(words: &[u32]) -> Result<Plan, Refusal>
+        ensures { of_result (λ P. P) result ≡ plan_load_outcome words.now }
+    {
+        Plan::judge(words)?;
+        Ok(Plan::loaded(words))
     }
 
     // The point of an index: in each axis the product of the matrix with the index, and what follows it.

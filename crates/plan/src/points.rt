@@ -1,8 +1,9 @@
 // Points, and what follows the products: the flips of each axis, and then its digital shift.
 ghost use Rattle.std.specs.Prelude.{◌≡◌};
 ghost use Rattle.net.specs.Scrambling.{scrambled_point};
-ghost use Rattle.refusal.specs.Refusal.{of_result};
-ghost use Rattle.plan.specs.Pair.{scrambling, only_shift, scramble_lent, scramble_load_outcome, of_point};
+ghost use Rattle.refusal.specs.Refusal.{of_judgement, of_result};
+ghost use Rattle.flips.specs.Load.{flips_outcome};
+ghost use Rattle.plan.specs.Pair.{scrambling, only_shift, scramble_lent, scramble_loaded, scramble_load_outcome, of_point};
 
 use flips::Flips;
 use refusal::Refusal;
@@ -37,18 +38,30 @@ pub struct LentScramble<'a> {
 }
 
 impl<'a> LentScramble<'a> {
-    // The scramble by value, or why its flips are refused. A `?` would move the flips once more.
-    #[tactic(auto, using(refusal::proofs::Results::tested))]
+    // Whether its flips are flips, or why they are refused.
+    pub fn judge(self) -> Result<(), Refusal>
+        ensures { of_judgement result ≡ flips_outcome (scramble_lent self.entry).flips }
+    {
+        Flips::judge(self.flips_x, self.flips_y)
+    }
+
+    // The scramble by value; where its flips are refused, no flip is set. Callers judge first, as with `Flips::loaded`.
+    pub fn loaded(self) -> Scramble
+        ensures { result ≡ scramble_loaded (scramble_lent self.entry) }
+    {
+        Scramble {
+            shift: self.shift,
+            flips: Flips::loaded(self.flips_x, self.flips_y),
+        }
+    }
+
+    // The same, or why its flips are refused.
+    #[tactic(auto, using(refusal::proofs::Results::tested, crate::proofs::Loading::scramble_held))]
     pub fn load(self) -> Result<Scramble, Refusal>
         ensures { of_result (λ s. s) result ≡ scramble_load_outcome (scramble_lent self.entry) }
     {
-        match Flips::load(self.flips_x, self.flips_y) {
-            Ok(flips) => Ok(Scramble {
-                shift: self.shift,
-                flips,
-            }),
-            Err(why) => Err(why),
-        }
+        self.judge()?;
+        Ok(self.loaded())
     }
 }
 

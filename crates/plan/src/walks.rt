@@ -51,14 +51,13 @@ impl Walk {
             ≡ part_left (step_outcome plan (scramble_lent lent.entry) (of_walk self)) (λ t. t.walk) (of_walk self) }
     {
         let Walk { next, left } = self;
-        let scramble = match lent.load() {
-            Ok(scramble) => scramble,
-            Err(why) => return (Err(why), self),
-        };
+        if let Err(why) = lent.judge() {
+            return (Err(why), self);
+        }
         if left == 0 {
             return (Ok(None), self);
         }
-        let at = plan.scrambled_point(scramble, next);
+        let at = plan.scrambled_point(lent.loaded(), next);
         let visit = Visit { index: next, at };
         if next == LAST_INDEX {
             return (Ok(Some(visit)), Walk { next, left: 0 });

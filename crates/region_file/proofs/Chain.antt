@@ -1,7 +1,7 @@
 -- The laws of `chain_outcome` and `whole`, one for each case of the code, and what an accepted link, chain or file has. They hold for every
 -- list of tests of a record.
 -- Assumes nothing.
-use mathlib.Core.Path.{◌≡◌, refl, sym}
+use mathlib.Core.Path.{◌≡◌, refl, sym, ◌∙◌}
 use mathlib.Core.Bool.{Bool, true, false, cond}
 use mathlib.Core.List.{List}
 use mathlib.Core.Logic.{◌⊎◌, inl, inr}
@@ -13,9 +13,9 @@ use lib.Dec.{eqb}
 use lib.ListN.{length}
 use Rattle.ranges.proofs.Tests.{both_hold}
 use Rattle.refusal.specs.Outcome.{Outcome, accepted, refused, Test, first}
-use Rattle.refusal.proofs.First.{accepted-refused, AllPass, all_pass, refused_before, passed_before}
+use Rattle.refusal.proofs.First.{accepted-refused, AllPass, all_pass, refused_before, passed_before, first-append}
 use Rattle.stage.specs.declared.regions.Field.{Field}
-use Rattle.stage.specs.Region.{within, takes}
+use Rattle.stage.specs.Region.{within, takes, position_tests}
 use Rattle.region_file.specs.declared.records.Record.{Record}
 use Rattle.region_file.specs.Records.{record_bytes, most_bytes, record_at, first_record, record_count, most_records}
 use Rattle.region_file.specs.Judge.{
@@ -26,12 +26,19 @@ use Rattle.region_file.specs.Judge.{
   record_tests,
   loader_tests,
   link_tests,
+  record_outcome,
   link_outcome,
   nowhere,
   also,
   chain_outcome,
   judge_outcome,
 }
+
+-- 10 and 16 of a record come before its other tests
+pub region-first : (further : Record → List Test) (f : Field) (r : Record) {k : ℕ} {vs : List ℕ}
+    → ◌≡◌ {A = Outcome Unit} (first (position_tests f r.region) (accepted tt)) (refused k vs)
+    → record_outcome (record_tests further f) r ≡ refused k vs
+region-first further f r e = first-append (position_tests f r.region) _ _ ∙ refused_before tt _ (position_tests f r.region) e
 
 -- what a record has that passes the tests of the listing and further ones, with the reader's field f
 pub record Sound (further : Record → List Test) (f : Field) (r : Record) : Type 0 where

@@ -5,13 +5,29 @@ use mathlib.Core.Path.{◌≡◌, refl, sym, ap, ◌∙◌}
 use mathlib.Core.Bool.{Bool, true, false, true≢false}
 use mathlib.Core.List.{List}
 use Prim.Native.Nat.{ℕ, zero, suc, ◌+◌, ◌-◌, ◌≤◌, ◌<◌}
-use native.Mathlib.Nat.{not-suc-le-zero}
+use native.Mathlib.Nat.{lt_irrefl, not-suc-le-zero}
 use native.Mathlib.Omega.{arith}
-use borrow.Author.Tests.{eq-eqb, eqb-true}
+use borrow.Author.Tests.{eq-eqb, ne_eqb, eqb-true}
 use lib.Dec.{eqb}
 use lib.ListN.{length, get_or, take, drop, length-take, length-drop}
 use Rattle.ranges.proofs.Tests.{both_hold}
 use Rattle.region_file.specs.Records.{zeros}
+
+-- one byte after the other: none is left, the first is zero, and it is not
+pub zeros-none : (file : List ℕ) (at n : ℕ) → n ≤ 0 → zeros file at n ≡ true
+unfolding zeros
+zeros-none file at zero h = refl
+zeros-none file at (suc n) h = absurd (omega arith)
+
+pub zeros-more : (file : List ℕ) (at n : ℕ) → 0 < n → get_or file at 0 ≡ 0 → zeros file (at + 1) (n - 1) ≡ zeros file at n
+unfolding zeros
+zeros-more file at zero h e = absurd (lt_irrefl 0 h)
+zeros-more file at (suc n) h e = let less : n ≡ suc n - 1 = omega arith in ap (zeros file (at + 1)) (sym less) ∙ simp (eq-eqb (get_or file at 0) 0 e)
+
+pub zeros_not : (file : List ℕ) (at n : ℕ) → 0 < n → (get_or file at 0 ≡ 0 → ⊥) → zeros file at n ≡ false
+unfolding zeros
+zeros_not file at zero h e = absurd (lt_irrefl 0 h)
+zeros_not file at (suc n) h e = simp (ne_eqb (get_or file at 0) 0 e)
 
 -- each of them is zero
 pub zero_byte : (file : List ℕ) (n at k : ℕ) → zeros file at n ≡ true → k < n → get_or file (at + k) 0 ≡ 0

@@ -1,7 +1,7 @@
 -- The limits of a region, one by one, and edges and positions as the machine reads them back.
 -- Assumes nothing.
-use mathlib.Core.Path.{◌≡◌, ap, ◌∙◌}
-use mathlib.Core.Bool.{true, not}
+use mathlib.Core.Path.{◌≡◌, ap, ◌∙◌, subst}
+use mathlib.Core.Bool.{Bool, true, not}
 use Prim.Native.Nat.{ℕ, ◌≤◌, ◌<◌}
 use borrow.Author.Tests.{ltb-false, le-ltb, not-true}
 use lib.Dec.{ltb}
@@ -13,6 +13,10 @@ use Rattle.ranges.proofs.Tests.{both_hold}
 use Rattle.stage.specs.declared.regions.Region.{Region}
 use Rattle.stage.specs.Position.{edge_within, extent_within, largest_extent}
 use Rattle.stage.specs.Region.{within}
+
+-- a test of a signed number, from the test of what is read back from its bits
+pub read_back : (f : ℤ → Bool) (b : Bool) (e : ℤ) → SFits w32 e → f (to_z w32 (of_z w32 e)) ≡ b → f e ≡ b
+read_back f b e h p = subst (λ (z : ℤ). f z ≡ b) (to_z-of_z w32 e h) p
 
 -- what the machine reads of an edge is that edge
 pub edge_read : (e : ℤ) → SFits w32 e → edge_within e ≡ true → edge_within (to_z w32 (of_z w32 e)) ≡ true

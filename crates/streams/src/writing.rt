@@ -1,5 +1,5 @@
 // Writing whole, in as many calls as the system needs, and how it ended.
-ghost use Rattle.std.specs.Prelude.{◌≡◌, ◌-◌, ◌≤◌, length, take, drop};
+ghost use Rattle.std.specs.Prelude.{◌≡◌, ◌-◌, ◌≤◌, length, take, drop, IfOk};
 ghost use Rattle.std.specs.Io.KnownBytes.{Appends};
 ghost use Rattle.std.specs.Process.{exit_status};
 ghost use Rattle.streams.specs.Transfer.{MovesAtMost, moved};
@@ -41,13 +41,14 @@ pub fn write_piece<W: Write>(
     ensures counted { CountedOn before piece.now result }
     ensures bytes { Puts (W.contents output.old) (W.contents output.new) piece.now result }
 {
-    write_all(output, clock, piece)?;
-    Ok(before.wrapping_add(piece.len() as u64))
+    let taken = write_all(output, clock, piece)?;
+    Ok(before.wrapping_add(taken as u64))
 }
 
-// Writes the text, in as many calls as it takes, until a write fails or takes nothing.
-fn write_all<W: Write>(output: &mut W, clock: &impl Clock, text: &[u8]) -> io::Result<()>
-    ensures { Puts (W.contents output.old) (W.contents output.new) text.now result }
+// Writes the text, in as many calls as it takes, until a write fails or takes nothing; hands back how many bytes the writes took, which is all of it.
+fn write_all<W: Write>(output: &mut W, clock: &impl Clock, text: &[u8]) -> io::Result<usize>
+    ensures whole { IfOk result (λ n. n ≡ length text.now) }
+    ensures bytes { Puts (W.contents output.old) (W.contents output.new) text.now result }
 {
     let mut bytes: usize = 0;
     let mut why = io::Error::from(ErrorKind::WriteZero);
@@ -65,7 +66,11 @@ fn write_all<W: Write>(output: &mut W, clock: &impl Clock, text: &[u8]) -> io::R
             }
         }
     }
-    if bytes < text.len() { Err(why) } else { Ok(()) }
+    if bytes < text.len() {
+        Err(why)
+    } else {
+        Ok(bytes)
+    }
 }
 
 // One write, of the bytes that are left.

@@ -4,6 +4,7 @@ ghost use Rattle.text.specs.Decimal.{decimal, signed_decimal, sign, longest_numb
 ghost use Rattle.text.specs.Put.{put};
 
 use crate::groups::{put_byte, put_four_digits, put_two_digits};
+use signed::unsigned_abs;
 
 // Ten digits and the byte after them.
 pub const LONGEST_NUMBER: usize = 11;
@@ -62,7 +63,7 @@ impl Decimal for i32 {
     }
 
     fn width(self) -> usize {
-        let digits = digit_count(self.unsigned_abs());
+        let digits = digit_count(unsigned_abs(self));
         if self < 0 {
             return digits + 1;
         }
@@ -71,7 +72,7 @@ impl Decimal for i32 {
 
     fn put(self, out: &mut [u8], at: usize) -> usize {
         let next = put_sign(self, out, at);
-        put_decimal(self.unsigned_abs(), out, next)
+        put_decimal(unsigned_abs(self), out, next)
     }
 }
 

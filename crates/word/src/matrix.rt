@@ -2,7 +2,7 @@
 ghost use Rattle.std.specs.Prelude.{◌≡◌};
 ghost use Rattle.net.specs.Generators.{product};
 
-use crate::{Columns, Index};
+use crate::{COLUMNS, Columns, Index};
 
 // The exclusive or of the columns whose index bit is set. Each column is multiplied by its bit, so that no branch depends on the index.
 pub fn product(columns: Columns, index: Index) -> u32
@@ -10,8 +10,8 @@ pub fn product(columns: Columns, index: Index) -> u32
 {
     let mut sum = 0u32;
     let mut rest = index;
-    for column in columns {
-        sum ^= column * (rest % 2);
+    for c in 0..COLUMNS {
+        sum ^= columns[c] * (rest % 2);
         rest /= 2;
     }
     sum

@@ -12,11 +12,11 @@ use Rattle.stratify.specs.Overview.{overview_outcome}
 use Rattle.pair_calls.proofs.Loading.{pair_stops, pair_gives}
 use Rattle.pair_calls.proofs.calls.overview.Goals as goal
 
-pub returns-in_err-plan : goal.returns-in_err-plan
-returns-in_err-plan c =
+pub returns-in_err-judge : goal.returns-in_err-judge
+returns-in_err-judge c =
     let a = c.args in
-    let back : c.from_residual.result ≡ Err c.in_err-plan.field-0.0 = search rules in
-    let stop = pair_stops a.words.now c.load.result c.load.ensures _ c.in_err-plan.was
+    let back : c.from_residual.result ≡ Err c.in_err-judge.field-0.0 = search rules in
+    let stop = pair_stops a.words.now c.judge.result c.judge.ensures _ c.in_err-judge.was
     (overview_outcome (loaded a.words.now) (scramble_lent a.lent) a.level a.m a.a a.block a.columns.now a.rows.now a.answers.now) in
     record {
       answer = ap of_judgement back ∙ sym (then-refused (accepted tt) (sym stop));
@@ -26,7 +26,7 @@ returns-in_err-plan c =
 pub returns : goal.returns
 returns c =
     let a = c.args in
-    let same = pair_gives a.words.now c.load.result c.load.ensures _ c.in_ok-plan.was
+    let same = pair_gives a.words.now c.judge.result c.judge.ensures c.in_ok-judge.was c.loaded.ensures
     (λ P. overview_outcome P (scramble_lent a.lent) a.level a.m a.a a.block a.columns.now a.rows.now a.answers.now) in
     record {
       answer = c.overview.ensures.answer ∙ ap (λ (o : Outcome (List ℕ)). then o (accepted tt)) same;

@@ -8,13 +8,13 @@ use Rattle.unit.specs.Singles.{singles_outcome}
 use Rattle.pair_calls.proofs.Loading.{pair_stops, pair_gives}
 use Rattle.pair_calls.proofs.calls.point_singles.Goals as goal
 
-pub returns-in_err-plan : goal.returns-in_err-plan
-returns-in_err-plan c =
-    let back : c.from_residual.result ≡ Err c.in_err-plan.field-0.0 = search rules in
-    ap (of_result (λ s. s)) back ∙ pair_stops c.args.words.now c.load.result c.load.ensures _ c.in_err-plan.was _
+pub returns-in_err-judge : goal.returns-in_err-judge
+returns-in_err-judge c =
+    let back : c.from_residual.result ≡ Err c.in_err-judge.field-0.0 = search rules in
+    ap (of_result (λ s. s)) back ∙ pair_stops c.args.words.now c.judge.result c.judge.ensures _ c.in_err-judge.was _
 
 pub returns : goal.returns
 returns c =
     let a = c.args in
-    c.singles_at.ensures ∙ pair_gives a.words.now c.load.result c.load.ensures _ c.in_ok-plan.was
+    c.singles_at.ensures ∙ pair_gives a.words.now c.judge.result c.judge.ensures c.in_ok-judge.was c.loaded.ensures
     (λ P. singles_outcome P (scramble_lent a.lent) a.index)

@@ -8,7 +8,7 @@ use Rattle.pair_calls.proofs.calls.step.Goals as goal
 
 pub returns-in-Err : goal.returns-in-Err
 returns-in-Err c =
-    let stop = pair_stops c.args.words.now c.load.result c.load.ensures _ c.in-Err.is
+    let stop = pair_stops c.args.words.now c.judge.result c.judge.ensures _ c.in-Err.is
     (step_outcome (loaded c.args.words.now) (scramble_lent c.args.lent) (of_walk c.args.walk)) in
     record {
       step = ap (through (λ t. t.answer)) stop;
@@ -18,7 +18,7 @@ returns-in-Err c =
 pub returns-in-Ok : goal.returns-in-Ok
 returns-in-Ok c =
     let a = c.args in
-    let same = pair_gives a.words.now c.load.result c.load.ensures _ c.in-Ok.is
+    let same = pair_gives a.words.now c.judge.result c.judge.ensures c.in-Ok.is c.loaded.ensures
     (λ P. step_outcome P (scramble_lent a.lent) (of_walk a.walk)) in
     record {
       step = c.step.ensures.step ∙ ap (through (λ t. t.answer)) same;

@@ -12,7 +12,7 @@ use mir.Syntax.{w32}
 use mir.Val.{Fits}
 use Rattle.net.specs.Shape.{Shape}
 use Rattle.refusal.specs.Outcome.{Outcome, accepted, Test, first}
-use Rattle.refusal.specs.Refusal.{of_judgement}
+use Rattle.refusal.specs.Refusal.{of_result, of_judgement}
 use Rattle.refusal.specs.declared.Refusal.TheVariants as variant
 use Rattle.refusal.proofs.First.{first-none, first_passes, first-refuses}
 use Rattle.refusal.proofs.Results.{stops, passes, gives}
@@ -29,7 +29,7 @@ use Rattle.stratify.proofs.Answered.{inside}
 use Rattle.stratify.proofs.Mapped.{made_of}
 use Rattle.stratify.proofs.Overviewed.{refuses, accepts, lengths_decide, tests_refuse, shape-refuses, shape-passes}
 use Rattle.stratify.proofs.overviews.overview.Goals as goal
-use Rattle.stratify.proofs.overviews.overview.Goals.{After-others_outside, After-shape_columns}
+use Rattle.stratify.proofs.overviews.overview.Goals.{After-judge, After-others_outside, After-shape_columns}
 
 -- ---- 8
 pub returns-then-n-rows : goal.returns-then-n-rows
@@ -51,13 +51,21 @@ judged : (t : LentScramble) (level m a k c r : ℕ) (cs rs : List ℕ) {o : Outc
 judged t level m a k c r cs rs is column row =
     is ∙ ap₂ (λ (c r : ℕ). first (query_tests (scramble_lent t).flips level m a k c r) (accepted (scramble_lent t))) column row
 
+-- what `judge` says of the first cell, as the definition asks for it
+judged_here : (c : goal.After-judge) → let a = c.args in
+    of_result (λ j. j.0) c.judge.result
+    ≡ first (tests a.lent a.level a.m a.a a.block a.columns.now a.rows.now) (accepted (scramble_lent a.lent))
+judged_here c =
+    let a = c.args in
+    judged a.lent a.level a.m a.a a.block _ _ a.columns.now a.rows.now c.judge.ensures.scramble (search rules) (search rules)
+
 pub returns-in_err-scramble : goal.returns-in_err-scramble
 returns-in_err-scramble c =
     let a = c.args in
     let s = scramble_lent a.lent in
     let why = c.in_err-scramble.field-0.0 in
     let back : c.from_residual.result ≡ Err why = search rules in
-    let is = judged a.lent a.level a.m a.a a.block _ _ a.columns.now a.rows.now c.judge.ensures.scramble (search rules) (search rules) in
+    let is = judged_here (goal.at.returns-in_err-scramble c).After-judge in
     let stop = stops (λ j. j.0) (tests a.lent a.level a.m a.a a.block a.columns.now a.rows.now) s c.judge.result is why c.in_err-scramble.was
     (accepted tt) in
     let both = refuses a.answers.now (tests_refuse a.plan s a.level a.m a.a a.block a.columns.now a.rows.now a.answers.now
@@ -178,7 +186,7 @@ returns c =
     let ok = c.in_ok-scramble in
     let e = ok.ensures.shape in
     let visits : Scramble → (m n : ℕ) → List ℕ = λ s m n. visit_indexes (sequence a.plan s) m n a.block a.columns.now a.rows.now in
-    let is = judged a.lent a.level a.m a.a a.block _ _ a.columns.now a.rows.now c.judge.ensures.scramble (search rules) (search rules) in
+    let is = judged_here at.After-judge in
     let same = gives (λ j. j.0) (tests a.lent a.level a.m a.a a.block a.columns.now a.rows.now) (scramble_lent a.lent) c.judge.result is
     (ok.scramble, ok.shape) ok.was in
     let both = accepts a.answers.now

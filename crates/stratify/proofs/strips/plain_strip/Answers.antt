@@ -7,15 +7,15 @@ use mir.Val.{Fits}
 use Rattle.stratify.proofs.LedBack.{by_word, by_shift}
 use Rattle.stratify.proofs.strips.plain_strip.Goals as goal
 
-pub returns-then-none_set : goal.returns-then-none_set
-returns-then-none_set c =
+pub returns-then-unflipped : goal.returns-then-unflipped
+returns-then-unflipped c =
     let a = c.args in
-    let none = c.none_set.ensures.0 c.if-none_set.true in
+    let none = c.requires.none_set c.if-unflipped.true in
     let f : Fits w32 a.shift = search rules in
-    ap (bit_xor a.strip) c.top.ensures ∙ by_shift a.flips a.shift a.t a.strip c.requires.0 c.requires.1 none f.fits
+    ap (bit_xor a.strip) c.top.ensures ∙ by_shift a.flips a.shift a.t a.strip c.requires.t.0 c.requires.t.1 none f.fits
 
 pub returns : goal.returns
 returns c =
     let a = c.args in
-    by_word a.flips a.shift a.t a.strip c.requires.0 c.requires.1 c.join-word.ensures c.unscramble.ensures
+    by_word a.flips a.shift a.t a.strip c.requires.t.0 c.requires.t.1 c.join-word.ensures c.unscramble.ensures
     c.top-2.ensures

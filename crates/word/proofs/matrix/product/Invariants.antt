@@ -4,5 +4,5 @@ use Rattle.digits.specs.Digits.{plus}
 use Rattle.net.specs.Generators.{product}
 use Rattle.word.proofs.matrix.product.Given as goal
 
-abbrev pub invariant-loop-column : goal.invariant-loop-column
-invariant-loop-column l = plus 2 l.sum (product 2 (drop l.column-index l.column-items) l.rest) ≡ product 2 l.column-items l.index
+abbrev pub invariant-loop-c : goal.invariant-loop-c
+invariant-loop-c l = plus 2 l.sum (product 2 (drop l.c l.columns) l.rest) ≡ product 2 l.columns l.index

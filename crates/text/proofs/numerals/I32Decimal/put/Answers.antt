@@ -18,7 +18,7 @@ returns-clause-text c =
     let v = c.put_decimal in
     let e : to_z w32 (of_z w32 a.self) ≡ a.self = to_z-of_z w32 a.self c.ranges.self in
     let signed = subst (λ (z : ℤ). Writes a.out.now a.at (sign z) u.result u.new.out) e (u.ensures.end, u.ensures.text) in
-    let digits = subst (λ (k : ℕ). Writes u.new.out u.result (decimal k) v.result v.new.out) (c.unsigned_abs.ensures.value ∙ ap nat_abs e)
+    let digits = subst (λ (k : ℕ). Writes u.new.out u.result (decimal k) v.result v.new.out) (c.unsigned_abs.ensures ∙ ap nat_abs e)
     (v.ensures.end, v.ensures.text) in
     (writes_then a.out.now a.at (sign a.self) (decimal (nat_abs a.self)) u.result u.new.out v.result v.new.out signed digits
     (omega (arith, c.requires, length-append (sign a.self) (decimal (nat_abs a.self))))).1

@@ -1,4 +1,4 @@
--- `plain_number`: the strips of both axes, joined whole.
+-- `plain_number_by_strips`: the strips of both axes, joined whole.
 use mathlib.Core.Path.{◌≡◌, ap₂, ◌∙◌}
 use Prim.Native.Nat.{ℕ, ◌+◌, ◌-◌, ◌*◌, ◌^◌}
 use native.Mathlib.Omega.{arith}
@@ -9,8 +9,8 @@ use Rattle.net.specs.Elimination.{serial}
 use Rattle.word.proofs.Joined.{joined-whole}
 use Rattle.stratify.specs.Strips.{plain_number}
 use Rattle.stratify.proofs.LedBack.{strip_lt, number_lt}
-use Rattle.stratify.proofs.strips.plain_number.Goals as goal
-use Rattle.stratify.proofs.strips.plain_number.Goals.{After-plain_strip-r}
+use Rattle.stratify.proofs.strips.plain_number_by_strips.Goals as goal
+use Rattle.stratify.proofs.strips.plain_number_by_strips.Goals.{After-plain_strip-r}
 
 -- the two strips by column and row
 made : (c : goal.After-plain_strip-r) → let a = c.args in
@@ -26,7 +26,7 @@ returns c =
     let a = c.args in
     let fx : Fits w32 a.scramble.shift.x = search rules in
     let fy : Fits w32 a.scramble.shift.y = search rules in
-    let (hc, hr) = c.requires in
+    let (hc, hr) = c.requires.column in
     let wide = a.shape.wide in
     let fits = a.shape.fits in
     let small = number_lt a.shape.m a.shape.a _ _ wide fits
